@@ -83,13 +83,16 @@ library:
 		-newer $(LIBRARY)/libxv6.so -print -quit)" ]; then echo '$(LIBRARY) is proved and made'; else tools/library.sh $(LIBRARY); fi
 
 # Makes the page, out/web/xv6.html: the machine in one file that opens offline. It needs Debian's binaryen.
-# It takes the proved library of crates/xv6_c. A module that is there already is taken by MODULE=FILE, the texts of another language by WORDS=FILE.
+# It takes the proved library of crates/xv6_c. A module that is there already is taken by MODULE=FILE, the texts of another language by WORDS=FILE,
+# and the exercises of a folder by EXERCISES=DIR, as EXERCISES=course/first_week.
 .PHONY: web check-web
 web: out/web/xv6.html
 
 WEB := out/web/xv6.html
 MODULE := out/web/machine.wasm
 WORDS := web/words.json
+EXERCISES :=
+PACKED := $(if $(EXERCISES),out/web/exercises.json)
 
 out/web/machine.wasm: $(wildcard crates/xv6_c/src/*.rt bindings/c/xv6.h web/*.sh)
 	web/build.sh out/web
@@ -104,8 +107,18 @@ out/web/xv6.img: user/manifest $(WEB_TEXTS) $(USER) | program
 	@mkdir -p $(@D)
 	cd out/user && $(abspath $(PROGRAM)) mkfs web-manifest $(abspath $@)
 
-$(WEB): $(MODULE) out/web/xv6.img $(wildcard web/*.js web/*.css web/*.html) $(WORDS) web/make_page.py
-	web/make_page.py $(MODULE) out/web/xv6.img $@ $(WORDS)
+# Packed anew each time: another folder may be wanted than the last time.
+out/web/exercises.json: $(USER) always
+	@mkdir -p $(@D)
+	course/pack.py $(EXERCISES) $@
+
+# The page that is checked has the exercises of the first week.
+out/web/checked.html: $(WEB) $(wildcard course/first_week/*/*)
+	course/pack.py course/first_week out/web/checked.json
+	web/make_page.py $(MODULE) out/web/xv6.img $@ $(WORDS) out/web/checked.json
+
+$(WEB): $(MODULE) out/web/xv6.img $(wildcard web/*.js web/*.css web/*.html) $(WORDS) web/make_page.py $(PACKED)
+	web/make_page.py $(MODULE) out/web/xv6.img $@ $(WORDS) $(PACKED)
 	@echo '$@ is written: open it in a browser'
 
 # Makes out/release: program, page, image, library, wheel, man page, completions and their sums.
@@ -162,8 +175,8 @@ check-library: $(IMAGE) library
 	tools/check_library.sh $(LIBRARY) $(PROGRAM) $(IMAGE)
 
 # Uses the page in Chromium and Firefox without a window, compares it with the program, and takes pictures of its views.
-check-web: $(WEB)
-	web/check.py $(WEB) $(PROGRAM) out/web/xv6.img out/web/pictures
+check-web: out/web/checked.html
+	web/check.py $< $(PROGRAM) out/web/xv6.img out/web/pictures
 
 # Compares multiplications and divisions with qemu's: the stored rows and 1,000,000 random pairs.
 check-qemu: | program
@@ -264,4 +277,4 @@ check-grader: | program
 # A right one has all points, and a wrong one loses the test that it names. It needs gcc-riscv64-unknown-elf, and node.
 check-labs: | program
 	XV6=$(abspath $(PROGRAM)) course/labs/check.py
-	XV6=$(abspath $(PROGRAM)) course/first_week/check_judge.py
+	XV6=$(abspath $(PROGRAM)) course/check_judge.py

@@ -16,6 +16,7 @@ import gzip
 import hashlib
 import html
 import importlib.util
+import itertools
 import json
 import os
 import pathlib
@@ -133,6 +134,7 @@ ENDS = ("prompt", "quiet", "idle", "halt")
 CONSOLE_LIMIT = 1_000_000  # bytes of the console after which a run is ended
 SHOWN_LIMIT = 20_000  # bytes of it that a result holds
 TRACE_LIMIT = 64_000_000  # bytes of a trace's file
+LINES_READ = 1000  # lines of a trace that are read at once
 SECONDS_LIMIT = 120  # processor time of one run: beyond that something is wrong with the host
 SHOWN_MARKS = 3  # good and bad lines that are shown, each
 WIDTH = 160  # characters of a line of a console that is too long
@@ -927,9 +929,9 @@ class Images:
 # ---- a run
 
 
-@dataclass(frozen=True)
+@dataclass
 class Call:
-    """A call that returned, or that waits and never returned."""
+    """A call that returned, or that waits and never returned; `more` is the event that says so."""
 
     at: int
     pid: int
@@ -989,6 +991,7 @@ class Trace:
         return [end for end in self.exits if end.pid in self.own]
 
 
+@functools.cache
 def base_name(program: Optional[str]) -> str:
     return (program or "?").rsplit("/", 1)[-1]
 
@@ -1003,8 +1006,7 @@ class TraceReader:
         self.waiting: dict[int, Call] = {}
 
     def read(self, lines: Iterable[str]) -> Trace:
-        for line in lines:
-            event = json.loads(line)
+        for event in events_of(lines):
             if event["event"] in ("call", "wait", "exit"):
                 self.note_owner(event)
             if event["event"] == "call":
@@ -1050,18 +1052,16 @@ class TraceReader:
         )
 
 
+def events_of(lines: Iterable[str]) -> Iterator[Table]:
+    """Lines of JSON, many of which are read at once: that is three times as fast."""
+    rest = iter(lines)
+    while part := list(itertools.islice(rest, LINES_READ)):
+        yield from json.loads(f"[{','.join(part)}]")
+
+
 def call_of(event: Table) -> Call:
-    common = ("event", "at", "pid", "program", "call", "since", "arguments", "result")
-    more = {key: value for key, value in event.items() if key not in common}
-    return Call(
-        event["at"],
-        event["pid"],
-        base_name(event["program"]),
-        event["call"],
-        tuple(event["arguments"]),
-        event.get("result"),
-        more,
-    )
+    program, arguments = base_name(event["program"]), tuple(event["arguments"])
+    return Call(event["at"], event["pid"], program, event["call"], arguments, event.get("result"), event)
 
 
 UNREACHED = re.compile(r":(\d+): not reached in (\d+) steps")

@@ -22,6 +22,8 @@ HERE = pathlib.Path(__file__).resolve().parent
 PORTRAIT = HERE.parent / "docs" / "page.png"
 WIDTHS = {1280: 800, 390: 844}
 VIEWS = ("run", "inside", "disk")
+COURSE = HERE.parent / "course"
+HELLO = COURSE / "first_week" / "hello"
 LINES = ["ls", "echo hi | cat", "mkdir d", "ls"]
 PASTED = "echo one > a\necho two > b\r\ncat a b\n" + "echo " + " ".join(["word"] * 8) + "\n"
 IDLE = "document.getElementById('status').textContent.startsWith('runs') && [...document.querySelectorAll('#processes tr')].every((row) => row.dataset.state === 'waiting')"
@@ -113,7 +115,8 @@ class Check:
     """The page in a browser, and the program beside it."""
 
     def __init__(self, browser, page, program, image, folder):
-        self.browser, self.address = browser, pathlib.Path(page).resolve().as_uri()
+        self.browser, self.page = browser, pathlib.Path(page).resolve()
+        self.address = self.page.as_uri()
         self.program, self.image = str(pathlib.Path(program).resolve()), str(pathlib.Path(image).resolve())
         self.pictures, self.folder = pathlib.Path(folder), pathlib.Path(tempfile.mkdtemp(dir=browser.folder))
 
@@ -451,6 +454,106 @@ class Check:
         self.rest(300)
         self.equal(self.screen(), screen, "the link shows the same")
 
+    # ---- programs and exercises
+
+    @property
+    def writes(self):
+        """Whether the module assembles, so that there is a view in which programs are written."""
+        return not self.browser.js("document.getElementById('tab-write').hidden")
+
+    @property
+    def views(self):
+        return (*VIEWS, "write") if self.writes else VIEWS
+
+    def fill(self, name, text, event="input"):
+        """Gives a field a value, as a reader does."""
+        self.browser.js(f"(() => {{ const it = document.getElementById({json.dumps(name)}); it.value = {json.dumps(text)}; it.dispatchEvent(new Event({json.dumps(event)})); }})()")
+
+    def check_program(self, said):
+        self.browser.click("#check")
+        self.said(said, said)
+
+    def exercises(self):
+        """A text with a fault is mended, assembled and run, an exercise is solved, and the link to a failed test's machine is replayed."""
+        self.start(self.address, 1280)
+        if not self.writes:
+            return print("  the module doesn't assemble: no exercise is tried")
+        self.look("write")
+        self.fill("exercises", "hello", "change")
+        right, wrong = (HELLO / "right/hello.s").read_text(), (HELLO / "start.s").read_text()
+        self.fill("source", wrong.replace("li a7, 16", "li a7, 16, 1"))
+        self.equal(self.text("faults").split()[:2], ["line", "5"], "a fault is shown at its line")
+        self.check_program("the text has faults")
+        self.fill("source", wrong)
+        self.equal(self.text("faults"), "", "it is mended")
+        self.check_program("not yet right: 0 of 10 points")
+        results = self.text("results")
+        self.equal("one line: not yet right" in results and "Hint: Count the bytes." in results, True, "what is not yet right is reported")
+        self.browser.picture(self.pictures / "exercise.png")
+        self.replayed_test()
+        self.look("write")
+        self.fill("source", right)
+        self.check_program("right: 10 of 10 points")
+        self.browser.click("#put-and-run")
+        self.browser.wait("document.getElementById('screen').textContent.endsWith('$ hello\\nhello, kernel\\n$ ')", "the program's line")
+        self.equal("addi a2, a2, 14" in self.text("rows"), True, "the exercise is solved, and the program runs")
+        for name in ("words", "copy", "child", "pipe"):
+            self.fill("exercises", name, "change")
+            self.fill("source", next((COURSE / "first_week" / name / "right").glob("*.s")).read_text())
+            points = self.browser.js("document.getElementById('results').textContent")
+            self.equal(points, "", f"{name} is not judged yet")
+            self.check_program("right: ")
+        print("  the other four are solved")
+
+    def replayed_test(self):
+        """The machine of a failed test, and the same by its link."""
+        self.browser.click("#result-0")
+        self.browser.wait("document.getElementById('screen').textContent.includes('$ hello\\n')", "the machine of the failed test")
+        self.settle("the machine of the failed test")
+        screen, (address, _) = self.screen(), self.link()
+        self.equal("&work=" in address, True, "the link holds the program")
+        self.start(address, 1280)
+        self.browser.wait(f"document.getElementById('screen').textContent === {json.dumps(screen)}", "the link of the failed test")
+        self.equal(self.browser.js("document.getElementById('source').value"), (HELLO / "start.s").read_text(), "it is replayed, with its text")
+
+    def lines_by_steps(self):
+        """A breakpoint at a line of an own text, and the next line."""
+        self.start(self.address, 1280)
+        if not self.writes:
+            return
+        self.look("write")
+        self.fill("exercises", "", "change")
+        self.browser.click("#row-0")
+        self.browser.click("#put-and-run")
+        current = "document.querySelector('#gutter .current')?.textContent"
+        for _ in range(8):
+            self.browser.wait("document.getElementById('run').textContent === 'Run'", "the breakpoint")
+            self.rest(300)
+            if self.browser.js(current):
+                break
+            self.browser.press("F8")
+            self.rest(100)
+        first = self.browser.js(current)
+        self.browser.click("#next-line")
+        self.rest(300)
+        self.equal((first, self.browser.js(current)), ("2", "3"), "a breakpoint at a line, and the next line")
+
+    def failed_test(self):
+        """The page of a failed test of course/grade.py opens without a net, and shows the console's failing line."""
+        folder, pages = self.folder / "ada", self.folder / "pages"
+        folder.mkdir()
+        (self.folder / "hello.s").write_text((HELLO / "right/hello.s").read_text().replace("hello, kernel", "hello, colonel").replace("14", "15"))
+        subprocess.run([self.program, "asm", self.folder / "hello.s", folder / "hello"], check=True)
+        words = [sys.executable, COURSE / "grade.py", "--quiet", "--status", "graded", "--html", pages, "--page", self.page, HELLO / "rubric.toml", folder]
+        subprocess.run(words, check=True, env={**os.environ, "XV6": self.program})
+        self.browser.open((pages / "1.html").as_uri())
+        self.browser.wait("document.getElementById('screen').textContent.includes('hello, colonel')", "the failing line")
+        self.settle("the failed test")
+        self.equal(self.screen().endswith("$ hello\nhello, colonel\n$ "), True, "a failed test's page shows the console's failing line")
+        self.pause()
+        self.back_to_key()
+        self.equal(self.screen().endswith("$ hello\n"), True, "and one steps back from there")
+
     def last_call(self):
         return self.browser.js("document.querySelector('#calls li').textContent")
 
@@ -466,20 +569,20 @@ class Check:
     # ---- what holds of each view
 
     def above_the_fold(self):
-        for view in VIEWS:
+        for view in self.views:
             self.look(view)
             tall, wide = self.browser.js("[document.documentElement.scrollHeight, document.documentElement.scrollWidth]")
             self.equal(tall <= 800 and wide <= 1280, True, f"{view}: above the fold")
 
     def contrasts(self):
         """Each text has a contrast of 7 at least to what is behind it."""
-        for view in VIEWS:
+        for view in self.views:
             self.look(view)
             self.equal(self.browser.js(CONTRAST), [], f"{view}: contrast")
 
     def stops(self):
         """Any control is at most 12 stops of Tab away."""
-        for view in VIEWS:
+        for view in self.views:
             self.look(view)
             self.browser.js("document.activeElement.blur(), document.getSelection().removeAllRanges()")
             self.browser.js("document.getElementById('run').focus()")
@@ -519,7 +622,7 @@ class Check:
 
     def framed(self):
         """In a frame of 700 by 500 a link shows its view alone."""
-        for view in VIEWS:
+        for view in self.views:
             self.browser.size(700, 500)
             self.browser.open(f"{self.address}#view={view}&only")
             self.browser.wait(f"!document.getElementById('view-{view}').hidden && {PROMPT}", "the view")
@@ -588,7 +691,7 @@ def looks(check, width):
     """Pictures of each view, light and dark."""
     for dark in (False, True):
         check.browser.size(width, WIDTHS[width], dark)
-        for view in VIEWS:
+        for view in check.views:
             check.look(view)
             check.fits(width)
             check.browser.picture(check.pictures / f"{view}-{width}{'-dark' if dark else ''}.png", whole=width < 1000)
@@ -618,7 +721,7 @@ def use(check, width):
 def wide(check):
     """What is looked at in a wide window alone."""
     print("views and time:")
-    for part in (check.pipes, check.travels, check.breaks, check.crashes, check.races, check.speaks, check.above_the_fold, check.stops, check.helps, check.framed, check.times):
+    for part in (check.pipes, check.travels, check.breaks, check.crashes, check.races, check.exercises, check.lines_by_steps, check.failed_test, check.speaks, check.above_the_fold, check.stops, check.helps, check.framed, check.times):
         part()
 
 

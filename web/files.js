@@ -56,9 +56,14 @@ export class Upload {
     this.echo = [];
   }
 
-  /** Why a file can't be put on the disk; `null` where it can. */
+  /** Whether a file may have that name. */
+  static isName(name) {
+    return NAME.test(name);
+  }
+
+  /** Why a file can't be typed; `null` where it can. */
   static refusal(machine, screen, name, size) {
-    if (!NAME.test(name)) return say("bad-name");
+    if (!Upload.isName(name)) return say("bad-name");
     if (size > MOST_UPLOAD) return say("too-large", { most: MOST_UPLOAD });
     if (!machine.names().some((file) => file.name === HELPER)) return say("no-helper", { helper: HELPER });
     if (!screen.endsWith("$ ")) return say("shell-busy");

@@ -16,6 +16,9 @@ const SIZES = Array.from({ length: ROOM / 4 + 1 }, (_, words) => BigInt(4 * word
 
 const STATES = ["", "running", "ready", "waiting", "ended"];
 const KINDS = ["", "directory", "file", "device"];
+const OPENED = ["", "file", "console", "device", "read-end", "write-end"];
+const DESCRIPTORS = 16;
+const DESCRIPTOR_SIZE = 32;
 
 /** Why a machine stops. */
 export class Halt extends Error {
@@ -205,9 +208,45 @@ export class Machine {
 
   /** The pid of the process that runs; 0 where none does. `word` finds its word then. */
   running() {
-    let pid = this.calls.xv6_raw_next_pid(this.handle, 0);
-    while (pid && !this.isRunning(pid)) pid = this.calls.xv6_raw_next_pid(this.handle, pid);
+    const pid = this.calls.xv6_raw_running(this.handle);
+    if (pid) this.calls.xv6_raw_process(this.handle, pid, this.roomAt);
     return pid;
+  }
+
+  /** At most so many instructions of the process that runs, up to a call or a fault; how many. */
+  compute(most) {
+    return this.calls.xv6_raw_compute(this.handle, most, 0n, 0n);
+  }
+
+  /** The open file that a descriptor of a process names; `null` where it names none. */
+  descriptor(pid, number) {
+    if (this.calls.xv6_raw_descriptor(this.handle, pid, BigInt(number), this.roomAt)) return null;
+    const view = new DataView(this.heap.memory.buffer, this.room, DESCRIPTOR_SIZE);
+    const [file, kind, offset, readable, writable] = [8, 12, 16, 20, 24].map((at) => view.getUint32(at, true));
+    return {
+      descriptor: number,
+      number: Number(view.getBigUint64(0, true)), // of its node, or of its pipe
+      file,
+      kind: OPENED[kind],
+      offset,
+      access: `${readable ? "r" : ""}${writable ? "w" : ""}`,
+    };
+  }
+
+  descriptors(pid) {
+    return Array.from({ length: DESCRIPTORS }, (_, number) => this.descriptor(pid, number)).filter((one) => one);
+  }
+
+  /** The descriptor that a process waits at, of `read` and `write`. */
+  awaited(pid) {
+    if (this.calls.xv6_raw_wait(this.handle, pid, this.roomAt)) return null;
+    return this.descriptor(pid, this.heap.view.getInt32(this.room, true));
+  }
+
+  /** The bytes in a pipe; `null` where there is no such pipe. */
+  pipe(number) {
+    if (this.calls.xv6_raw_pipe(this.handle, BigInt(number), this.roomAt, ALL, this.countAt)) return null;
+    return this.heap.bytes(this.room, Number(this.heap.view.getBigUint64(this.count, true))).slice();
   }
 
   processes() {

@@ -1,6 +1,6 @@
 #!/usr/bin/env python3
-"""make_page.py MODULE IMAGE OUT [WORDS]: writes the page as one file, which holds its style, its code, its texts, the module and the image.
-WORDS is another language's words.json."""
+"""make_page.py MODULE IMAGE OUT [WORDS [EXERCISES]]: writes the page as one file, which holds its style, its code, its texts, the module and the
+image. WORDS is another language's words.json, EXERCISES what course/pack.py wrote."""
 import base64
 import gzip
 import html
@@ -20,9 +20,22 @@ ENGLISH = HERE / "words.json"
 UNPACK = re.search(r"^async function unpack.*?^}\n", (HERE / "page.js").read_text(), re.MULTILINE | re.DOTALL)[0].replace("byId(", "document.getElementById(")
 
 
-def packed(name):
-    """A file as text, made small. The same bytes give the same text."""
-    return base64.b64encode(gzip.compress(pathlib.Path(name).read_bytes(), 9, mtime=0)).decode()
+# What the page begins with: it puts its code in, which is packed, too.
+BEGIN = f"""{UNPACK}
+const code = document.createElement("script");
+code.type = "module";
+code.textContent = new TextDecoder().decode(await unpack("packed-code"));
+document.head.append(code);
+"""
+
+
+def packed(data):
+    """Bytes as text, made small. The same bytes give the same text."""
+    return base64.b64encode(gzip.compress(data, 9, mtime=0)).decode()
+
+
+def packed_file(name):
+    return packed(pathlib.Path(name).read_bytes())
 
 
 def words_of(name):
@@ -59,9 +72,11 @@ def main():
     page = WORD.sub(lambda match: html.escape(words[match[1]]), (HERE / "index.html").read_text())
     for position, text in {
         "/* style.css */\n": (HERE / "style.css").read_text(),
-        "// page.js\n": joined("page", set(), words),
-        'id="packed-module">': f'id="packed-module">{packed(module)}',
-        'id="packed-image">': f'id="packed-image">{packed(image)}',
+        "// page.js\n": BEGIN,
+        'id="packed-code">': f'id="packed-code">{packed(joined("page", set(), words).encode())}',
+        'id="packed-module">': f'id="packed-module">{packed_file(module)}',
+        'id="packed-image">': f'id="packed-image">{packed_file(image)}',
+        'id="packed-exercises">': f'id="packed-exercises">{packed_file(sys.argv[5]) if len(sys.argv) > 5 else ""}',
     }.items():
         assert page.count(position) == 1, position
         page = page.replace(position, text)

@@ -7,14 +7,14 @@ const MOST = 4096;
 
 const isProgram = (bytes) => bytes.length > FIRST_HEADER && bytes[0] === 0x7f && bytes[1] === 0x45 && bytes[2] === 0x4c && bytes[3] === 0x46;
 
-// The first part that a program's file loads: its page, and the bytes there.
-function firstPart(bytes) {
+/** The first part that a program's file loads: its page, and the bytes there, up to so many. */
+export function firstPart(bytes, most = MOST) {
   const view = new DataView(bytes.buffer, bytes.byteOffset, bytes.length);
   const [headers, count] = [Number(view.getBigUint64(32, true)), view.getUint16(56, true)];
   for (let at = headers; at < headers + 56 * count && at + 56 <= bytes.length; at += 56) {
     if (view.getUint32(at, true) !== LOADED) continue;
     const [from, address, size] = [8, 16, 32].map((by) => Number(view.getBigUint64(at + by, true)));
-    return { page: Math.floor(address / MOST), bytes: bytes.subarray(from, from + Math.min(size, MOST)) };
+    return { page: Math.floor(address / MOST), bytes: bytes.subarray(from, from + Math.min(size, most)) };
   }
   return null;
 }

@@ -7,15 +7,18 @@ import { REGISTERS } from "./disassembly.js";
 import { Driver } from "./driver.js";
 import { button, byId, download, element, group, replace } from "./elements.js";
 import { faultOf } from "./faults.js";
+import { Exercises } from "./exercises.js";
 import { Upload, showFiles } from "./files.js";
 import { addressOf, showDescriptors, showPipes, showWalk } from "./inside.js";
+import { canWrite, put } from "./library.js";
 import { loadModule } from "./machine.js";
 import { Names } from "./names.js";
-import { eventsOf, markOf, sessionOf, toFragment, wordsOf } from "./record.js";
+import { eventsOf, markOf, packText, sessionOf, toFragment, unpackText, wordsOf } from "./record.js";
 import { Search } from "./search.js";
 import { Terminal } from "./terminal.js";
 import { bytesText, processLines, showCalls, showCode, showPages, showPids, showProcesses, showRegisters } from "./views.js";
 import { counted, grouped, say } from "./words.js";
+import { Workshop, wireWorkshop } from "./workshop.js";
 
 const FRAMES = 256;
 const LONGEST = 250; // milliseconds that one picture may stand for
@@ -27,7 +30,7 @@ const PART = 100_000; // steps of a machine that goes on until nobody is ready
 const MOST_PARTS = 20;
 const PAGE_SIZE = 4096;
 const MOST_SHOWN = 1 << 16;
-const VIEWS = ["run", "inside", "disk"];
+const VIEWS = ["run", "inside", "disk", "write"];
 const NOTED = ["call", "switch"]; // what is known of noted calls alone
 const THEMES = ["", "dark", "light"];
 const SYSTEM_DARK = matchMedia("(prefers-color-scheme: dark)");
@@ -55,6 +58,7 @@ class Page {
     this.upload = null;
     this.hidden = []; // parts of the console's bytes that are shown otherwise
     this.finder = null;
+    this.workshop = null; // where the module assembles
     this.terminal = new Terminal(
       { frame: byId("terminal"), screen: byId("screen"), keys: byId("keys"), spoken: byId("spoken") },
       {
@@ -75,6 +79,7 @@ class Page {
     const driver = new Driver(this.module, image, frames, events);
     const time = performance.now() - begin;
     this.endSearch();
+    if (this.driver) driver.breaks = this.driver.breaks;
     this.driver?.close();
     this.driver = driver;
     this.image = image;
@@ -222,6 +227,10 @@ class Page {
     return process;
   }
 
+  lookedAt() {
+    return this.chooseAmong(this.driver.machine.processes());
+  }
+
   choosePage(number) {
     byId("address").value = `0x${(number * PAGE_SIZE).toString(16)}`;
     this.refresh();
@@ -235,7 +244,7 @@ class Page {
 
   /** Shows one of the three views. */
   lookIn(view) {
-    this.view = VIEWS.includes(view) ? view : "run";
+    this.view = VIEWS.includes(view) && (view !== "write" || this.workshop) ? view : "run";
     for (const name of VIEWS) {
       byId(`view-${name}`).hidden = name !== this.view;
       byId(`tab-${name}`).setAttribute("aria-selected", name === this.view);
@@ -355,6 +364,7 @@ class Page {
     if (this.view === "run") this.showRun();
     if (this.view === "inside") this.showInside();
     if (this.view === "disk" && this.shown.state === "") this.showDisk();
+    if (this.view === "write") this.workshop.showMachine(this.lookedAt());
     if (this.view === "run" && this.shown.state === "") this.shown.filesPosition = -1;
   }
 
@@ -507,6 +517,7 @@ class Page {
   // ---- files, images and sessions
 
   addFile(name, bytes) {
+    if (this.workshop && this.driver.record.counts().keys === 0) return this.putFile(name, bytes);
     const refusal = Upload.refusal(this.driver.machine, this.terminal.text, name, bytes.length);
     if (refusal) return this.say(`${name}: ${refusal}`);
     this.upload = new Upload(name, bytes);
@@ -514,6 +525,13 @@ class Page {
     this.driver.type(this.upload.typed);
     this.run(true);
     return this.say(say("is-typed", { name }));
+  }
+
+  // Before anything was typed a file is put on the image, which is booted anew.
+  putFile(name, bytes) {
+    if (!Upload.isName(name)) throw new Error(say("bad-name"));
+    this.boot(put(this.module, this.image, `/${name}`, bytes), this.driver.record.frames);
+    this.say(say("is-put", { name }));
   }
 
   saveImage() {
@@ -528,8 +546,15 @@ class Page {
     return { view: this.view === "run" ? "" : this.view, at: driver.isAtEnd ? "" : driver.position, pid, break: breaks };
   }
 
+  // What a link says of an image that has a program of the workshop.
+  async written() {
+    const booted = this.workshop?.booted;
+    return booted?.image === this.image ? { work: await packText(JSON.stringify(booted.work)) } : {};
+  }
+
   async makeLink() {
-    const { href } = new URL(await toFragment(this.driver.record, markOf(this.image), this.seen), location.href);
+    const seen = { ...this.seen, ...(await this.written()) };
+    const { href } = new URL(await toFragment(this.driver.record, markOf(this.image), seen), location.href);
     byId("link").value = href;
     byId("link").select();
     history.replaceState(null, "", href);
@@ -549,7 +574,8 @@ class Page {
   async follow(fragment) {
     const session = await sessionOf(fragment);
     const words = wordsOf(fragment);
-    if (!session && !words.view) throw new Error(say("no-session"));
+    if (words.work && this.workshop) this.workshop.open(JSON.parse(await unpackText(words.work)));
+    if (!session && !words.view && !words.work) throw new Error(say("no-session"));
     if (session) this.replay(session, words);
     if (words.view) this.lookIn(words.view);
     this.showOnly("only" in words);
@@ -558,9 +584,10 @@ class Page {
   }
 
   replay({ mark, frames, events }, { at }) {
-    const image = [this.image, this.firstImage].find((one) => markOf(one) === mark);
+    const image = [this.image, this.firstImage, ...(this.workshop?.images() ?? [])].find((one) => markOf(one) === mark);
     if (!image) throw new Error(say("other-image"));
     this.boot(image, frames, events);
+    this.driver.breaks.clear();
     if (/^\d+$/.test(at ?? "")) this.driver.goal = Math.min(Number(at), this.driver.end);
   }
 
@@ -698,7 +725,7 @@ function wireLooks(page) {
   byId("help").addEventListener("click", () => byId("keys-help").showModal());
   byId("close-help").addEventListener("click", () => byId("keys-help").close());
   document.querySelectorAll("[role=toolbar], [role=tablist]").forEach(group);
-  for (const id of ["processes", "files", "code", "pages", "inodes", "block-tree", "outcomes"]) group(byId(id));
+  for (const id of ["processes", "files", "code", "pages", "inodes", "block-tree", "outcomes", "rows", "results", "faults"]) group(byId(id));
 }
 
 const isText = (target) => target.matches?.("textarea, input[type=text], input[type=number]");
@@ -715,7 +742,7 @@ function keyAct(page, event) {
     F9: () => (event.shiftKey ? page.driver.tickByHand() : page.step()),
     F10: () => page.forwardTo(event.shiftKey ? "switch" : "call"),
   };
-  if (event.altKey) return { s: () => page.search(), l: redrawn(page, lecture) }[event.key.toLowerCase()];
+  if (event.altKey) return { s: () => page.search(), l: redrawn(page, lecture), w: () => page.lookIn("write") }[event.key.toLowerCase()];
   if (event.ctrlKey || event.metaKey) return undefined;
   if (event.key === "?" && !isText(event.target)) return plain.F1;
   return plain[event.key];
@@ -754,12 +781,22 @@ async function unpack(id) {
   return new Uint8Array(await new Response(stream).arrayBuffer());
 }
 
+// The view in which programs are written, where the module can make them.
+async function openWorkshop(page) {
+  const packed = byId("packed-exercises").textContent && (await unpack("packed-exercises"));
+  const exercises = packed ? new Exercises(page.module, JSON.parse(new TextDecoder().decode(packed))) : null;
+  page.workshop = new Workshop(page.module, page, exercises);
+  byId("tab-write").hidden = false;
+  wireWorkshop(page.workshop, (act) => guarded(page, act));
+}
+
 async function start() {
   showTheme();
   const [code, image] = await Promise.all(["packed-module", "packed-image"].map(unpack));
   const page = new Page(await loadModule(code), image);
   page.lookIn("run");
   page.boot(image, FRAMES);
+  if (canWrite(page.module)) await openWorkshop(page);
   for (const wire of [wireControls, wireTime, wireViews, wireFiles, wireLinks, wireLooks, wireKeys]) wire(page);
   const draw = (time) => {
     page.frame(time);

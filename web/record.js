@@ -189,12 +189,17 @@ const fromLetters = (letters) => Uint8Array.from(atob(letters.replaceAll("-", "+
 
 /** The part of a link that holds a session on the image with a mark, and what one looks at: `view`, `at`, `pid`, `break`, `only`. */
 export async function toFragment(record, mark, seen = {}) {
-  const packed = await through(new TextEncoder().encode(record.text(mark)), new CompressionStream("deflate-raw"));
   const words = Object.entries(seen).filter(([, value]) => value).map(([name, value]) => `&${name}=${value}`);
-  return `#${SIGN}=${toLetters(packed)}${words.join("")}`;
+  return `#${SIGN}=${await packText(record.text(mark))}${words.join("")}`;
 }
 
-async function unpacked(letters) {
+/** A text in the letters of a link. */
+export async function packText(text) {
+  return toLetters(await through(new TextEncoder().encode(text), new CompressionStream("deflate-raw")));
+}
+
+/** The text that letters of a link hold; empty where they hold none. */
+export async function unpackText(letters) {
   try {
     return new TextDecoder().decode(await through(fromLetters(letters), new DecompressionStream("deflate-raw")));
   } catch {
@@ -209,7 +214,7 @@ export const wordsOf = (fragment) => Object.fromEntries(new URLSearchParams(frag
 export async function sessionOf(fragment) {
   const letters = wordsOf(fragment)[SIGN];
   if (!letters) return null;
-  const [head, ...lines] = (await unpacked(letters)).split("\n");
+  const [head, ...lines] = (await unpackText(letters)).split("\n");
   const [, mark, frames] = head.match(/^boot ([0-9a-f]{8}) (\d+)$/) ?? [];
   if (!mark) throw new Error(say("no-session"));
   return { mark, frames: Number(frames), events: eventsOf(lines.join("\n")) };

@@ -1,8 +1,8 @@
 #!/usr/bin/env python3
-"""Compares judge.js with course/grade.py on each solution of the exercises.
+"""Compares the page's judge with course/grade.py on each solution of the exercises, and of each kind of run its end.
 
-It needs node; the variable XV6 names the program. Both judge the same runs: grade.py's, whose output and files are
-handed to judge.js.
+It needs node; the variable XV6 names the program. Both judge the same runs: grade.py's, whose end, output, files and
+faults are handed to web/judge.js.
 """
 import dataclasses
 import json
@@ -13,17 +13,23 @@ import sys
 import tempfile
 
 HERE = pathlib.Path(__file__).resolve().parent
-sys.path[:0] = [str(HERE.parent), str(HERE.parent / "labs")]
+sys.path[:0] = [str(HERE), str(HERE / "labs"), str(HERE.parent / "web")]
 import check  # noqa: E402
 import grade  # noqa: E402
+import make_page  # noqa: E402
 
 SCRIPT = """
-const { judge } = require(process.argv[1]);
 const cases = JSON.parse(require("fs").readFileSync(0, "latin1"));
 const file = (files) => (path) => (path in files ? files[path] : null);
-console.log(JSON.stringify(cases.map((it) => judge(it.test, { output: it.output, file: file(it.files) }))));
+console.log(JSON.stringify(cases.map((it) => judge.judged(it.test, { ...it, file: file(it.files) }))));
 """
 KEYS = {"output": "output", "lines": "lines", "match": "match", "not": "never"}
+ENDS = {
+    grade.End.DONE: "done",
+    grade.End.HALTED: "halted",
+    grade.End.UNREACHED: "unreached",
+    grade.End.CUT: "cut",
+}
 
 
 def filled(test, values):
@@ -37,15 +43,13 @@ def filled(test, values):
 
 
 def seen(run):
-    """What judge.js is given of a run, and whether grade.py finds something wrong with output and files."""
+    """What the page's judge is given of a run, and whether grade.py finds something wrong with it."""
     test = filled(run.test, run.values)
     found = {path: run.file(path) for path in test["left"]}
     files = {path: data.decode("latin-1") for path, data in found.items() if data is not None}
-    verdict = grade.Verdict()
-    grade.judge_output(run, verdict)
-    grade.judge_patterns(run, verdict)
-    grade.judge_files(run, verdict)
-    return {"test": test, "output": run.output, "files": files}, verdict.has_failed
+    faults = [fault["words"] for fault in run.report.get("faults", [])]
+    case = {"test": test, "end": ENDS[run.end], "output": run.output, "files": files, "faults": faults}
+    return case, grade.judge(run, looks=True).has_failed
 
 
 def runs(rubric, folder, scratch):
@@ -56,12 +60,13 @@ def runs(rubric, folder, scratch):
     runner = grade.Runner(engine, images, folder, "judge")
     for test in rubric.tests:
         values, image = runner.prepare(dataclasses.replace(test))
-        yield runner.run(test, test.machine.schedules[0], values, image, looks=False)
+        yield runner.run(test, test.machine.schedules[0], values, image, looks=True)
 
 
 def main():
     cases, verdicts, names = [], [], []
-    for name, folder in check.folders([path.parent.name for path in sorted(HERE.glob("*/rubric.toml"))]).items():
+    exercises = sorted((HERE / "first_week").glob("*/rubric.toml"))
+    for name, folder in check.folders([path.parent.name for path in exercises]).items():
         rubric = grade.read_rubric(str(folder / "rubric.toml"))
         found = check.solutions(name, folder)
         check.prepare(name, found, check.TOP / "out/labs" / name)
@@ -72,7 +77,7 @@ def main():
                     cases.append(case)
                     verdicts.append(failed)
                     names.append(f"{name}, {solution.name}, {run.test.name}")
-    words = ["node", "-e", SCRIPT, str(HERE / "judge.js")]
+    words = ["node", "-e", make_page.joined("judge", set()) + SCRIPT]
     said = json.loads(subprocess.run(words, input=json.dumps(cases), capture_output=True, text=True, check=True).stdout)
     wrong = [name for name, failed, sentences in zip(names, verdicts, said) if failed != bool(sentences)]
     for name in wrong:
