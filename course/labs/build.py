@@ -20,12 +20,14 @@ TEXTS = {
     "shell": ["sh.c"],
     "malloc": ["umalloc.c"],
     "race": ["counter.c"],
-    "fs": [],
+    "fs": ["reader.c", "checker.c"],
 }
 FILES = {
     "race": ["lost.script", "least.script", "stuck.script"],
-    "fs": ["reader.py", "checker.py"],
+    "fs": ["reader.py", "checker.py", "image.py"],
 }
+# Labs whose programs run on the host, and the texts that theirs include.
+ON_THE_HOST = {"fs": ["image.h"]}
 
 
 def compile_all(texts, out):
@@ -41,6 +43,19 @@ def compile_all(texts, out):
     return subprocess.run(words, stdout=subprocess.PIPE, stderr=subprocess.STDOUT, text=True).stdout
 
 
+def compile_for_host(texts, out):
+    """Compiles texts in C for the host, by the names of their programs, beside the texts that they include."""
+    out.mkdir(parents=True, exist_ok=True)
+    said = ""
+    for name, text in texts.items():
+        (out / name).write_text(text)
+    for name in texts:
+        if name.endswith(".c"):
+            words = ["cc", "-O2", "-Wall", "-o", out / name.removesuffix(".c"), out / name]
+            said += subprocess.run(words, stdout=subprocess.PIPE, stderr=subprocess.STDOUT, text=True).stdout
+    return said
+
+
 def with_driver(lab, text, name):
     """The program's name and text of what a student wrote: of lab malloc the driver with it in its middle."""
     if lab != "malloc":
@@ -49,12 +64,20 @@ def with_driver(lab, text, name):
     return name.replace("umalloc", "heap", 1), driver.replace('#include "umalloc.c"\n', text)
 
 
+def texts_of(submission, names):
+    """The texts that a submission has, by their names."""
+    paths = [submission / name for name in names]
+    return {path.name: path.read_text(errors="replace") for path in paths if path.is_file() and not path.is_symlink()}
+
+
 def build(lab, submission, out):
     """Compiles and copies what a submission has."""
     out.mkdir(parents=True, exist_ok=True)
-    texts = [submission / name for name in TEXTS[lab]]
-    found = {path.stem: path.read_text(errors="replace") for path in texts if path.is_file() and not path.is_symlink()}
-    said = compile_all(dict(with_driver(lab, text, name) for name, text in found.items()), out)
+    found = texts_of(submission, TEXTS[lab] + ON_THE_HOST.get(lab, []))
+    if lab in ON_THE_HOST:
+        said = compile_for_host(found, out)
+    else:
+        said = compile_all(dict(with_driver(lab, text, name.removesuffix(".c")) for name, text in found.items()), out)
     for name in FILES.get(lab, []):
         if (submission / name).is_file() and not (submission / name).is_symlink():
             shutil.copy(submission / name, out / name)

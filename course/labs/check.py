@@ -7,8 +7,9 @@ Each right solution has to have all points under N seeds (50), and each wrong on
 names ("Loses: NAME"), under two of them: of a wrong one that test alone is run, or all with --whole. If one is graded
 otherwise the status is 1. The variable XV6 names the program, and CC the compiler.
 
-A right solution is the folder `right`. A file PROGRAM-REASON.* of `also` is another right one, graded under five seeds,
-and one of `wrong` a wrong one, in place of the file PROGRAM.* of the right one. A wrong one with the ending .edit has
+A right solution is the folder `right`, and one in another language `right_c` or the like. A file PROGRAM-REASON.* of
+`also` is another right one, graded under five seeds, and one of `wrong` a wrong one, in place of the file PROGRAM.* of
+the right one that has such a file. A wrong one with the ending .edit has
 what is changed: after lines with # the lines `file: NAME`, `old: TEXT` and `new: TEXT`; lines that follow one another
 are one text, which is there once. One with the ending .from names a file of the repository that it is.
 """
@@ -84,10 +85,13 @@ def loses_of(text):
     return found[1]
 
 
-def variant(lab, path, right):
-    """What a file of `wrong` or `also` makes of the right solution."""
+def variant(lab, path, rights):
+    """What a file of `wrong` or `also` makes of the right solution that has its program."""
     text = path.read_text()
     program = path.stem.split("-")[0]
+    changed = re.search(r"^file: *(\S+)", text, re.M) if path.suffix == ".edit" else None
+    name = changed[1] if changed else program + path.suffix
+    right = next((files for files in rights if name in files), rights[0])
     if path.suffix == ".edit":
         files = edited(right, text)
     else:
@@ -104,11 +108,14 @@ def variant(lab, path, right):
 
 def solutions(lab, folder):
     """The right solution, others, and the wrong ones."""
-    right = {path.name: path.read_text() for path in sorted((folder / "right").iterdir()) if path.is_file()}
-    found = [Solution(lab, "right", right)]
+    found = []
+    for place in sorted(folder.glob("right*")):
+        files = {path.name: path.read_text() for path in sorted(place.iterdir()) if path.is_file()}
+        found.append(Solution(lab, place.name, files))
+    rights = [solution.files for solution in found]
     for path in sorted([*(folder / "also").glob("*"), *(folder / "wrong").glob("*")]):
         try:
-            found.append(variant(lab, path, right))
+            found.append(variant(lab, path, rights))
         except (ValueError, KeyError) as error:
             raise SystemExit(f"{path}: {error}") from None
     return found
@@ -120,7 +127,7 @@ def solutions(lab, folder):
 def prepare(lab, all_of_it, out):
     """Compiles each text once, and makes a folder a submission."""
     texts, names = {}, {}
-    for solution in all_of_it:
+    for solution in [] if lab in build.ON_THE_HOST else all_of_it:
         for name, text in solution.files.items():
             if name.endswith(".c") and (name, text) not in names:
                 number = len(names)
@@ -132,6 +139,9 @@ def prepare(lab, all_of_it, out):
         solution.folder = out / "submissions" / solution.name
         shutil.rmtree(solution.folder, ignore_errors=True)
         solution.folder.mkdir(parents=True)
+        if lab in build.ON_THE_HOST:
+            said += build.compile_for_host(solution.files, solution.folder)
+            continue
         for name, text in solution.files.items():
             place(solution, name, text, names, out)
     return said

@@ -141,15 +141,23 @@ def limit():
     resource.setrlimit(resource.RLIMIT_FSIZE, (0, 0))
 
 
+def words_of(folder, program):
+    """What starts a program of the submission: a file of Python, or what was compiled of one of C."""
+    path = folder / f"{program}.py"
+    if path.is_file():
+        return [sys.executable, "-E", "-S", "-B", path]
+    return [folder / program] if (folder / program).is_file() else None
+
+
 def call(run, program, *words):
     """Status and output of a program of the submission."""
-    path = pathlib.Path(run.folder).resolve() / program
-    if not path.is_file():
+    first = words_of(pathlib.Path(run.folder).resolve(), program)
+    if first is None:
         return None, b""
-    words = [sys.executable, "-E", "-S", "-B", path, *words]
+    words = [*first, *words]
     try:
         done = subprocess.run(words, capture_output=True, timeout=3 * SECONDS, preexec_fn=limit, cwd=SCRATCH.name)
-    except subprocess.TimeoutExpired:
+    except (OSError, subprocess.TimeoutExpired):
         return None, b""
     return done.returncode, done.stdout
 
@@ -160,9 +168,9 @@ def call(run, program, *words):
 def lists_as_xv6(run, made):
     path = made.write()
     wanted = run.xv6("ls", "-R", str(path), "/").output
-    status, output = call(run, "reader.py", path)
+    status, output = call(run, "reader", path)
     if status != 0:
-        return f"reader.py IMAGE ended with status {status}"
+        return f"reader IMAGE ended with status {status}"
     if output == wanted:
         return None
     pairs = zip([*output.split(b"\n"), b""], [*wanted.split(b"\n"), b""])
@@ -174,9 +182,9 @@ def reads_as_xv6(run, made, paths):
     image = made.write()
     for path in paths:
         wanted = run.xv6("get", str(image), path).output
-        status, output = call(run, "reader.py", image, path)
+        status, output = call(run, "reader", image, path)
         if status != 0 or output != wanted:
-            return f"of a file of {len(wanted)} bytes reader.py wrote {len(output)}, and not these (status {status})"
+            return f"of a file of {len(wanted)} bytes reader wrote {len(output)}, and not these (status {status})"
     return None
 
 
@@ -201,9 +209,9 @@ def refuses_what_is_no_file(run):
     image = made.write()
     path = made.random.choice(list(made.files))
     for wrong in (path + "x", path + "/x", "/one", "/", "/nosuch/file", "/console"):
-        status, output = call(run, "reader.py", image, wrong)
+        status, output = call(run, "reader", image, wrong)
         if status != 1 or output:
-            return f"{wrong} is no file, and reader.py ended with status {status} and {len(output)} bytes"
+            return f"{wrong} is no file, and reader ended with status {status} and {len(output)} bytes"
     return None
 
 
@@ -245,21 +253,21 @@ def reads_after_changes(run):
 
 
 def judged(run, made, what):
-    """None where checker.py says the same of an image as xv6 does."""
+    """None where checker says the same of an image as xv6 does."""
     path = made.write()
     said = run.xv6("check", str(path))
     wanted = said.output + said.error.encode()
-    status, output = call(run, "checker.py", path)
+    status, output = call(run, "checker", path)
     one, other = [text.decode("latin-1").split()[:2] for text in (wanted, output)]
     if one[:1] == ["ok"]:
         one, other = one[:1], other[:1]
     if one == other and status == (one[0] != "ok"):
         return None
-    return f"{what}: xv6 check prints {' '.join(one)!r}, checker.py {' '.join(other)!r} (status {status})"
+    return f"{what}: xv6 check prints {' '.join(one)!r}, checker {' '.join(other)!r} (status {status})"
 
 
 def each(run, *spoils):
-    """What is wrong with the first of some spoiled images of which checker.py says something else than xv6."""
+    """What is wrong with the first of some spoiled images of which checker says something else than xv6."""
     for spoil in spoils:
         made = usual(run)
         spoil(made)
