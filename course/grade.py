@@ -544,8 +544,9 @@ class Test:
 
     @property
     def wants_trace(self) -> bool:
-        """Whether it says more of them than which faults and statuses they have."""
-        return bool(self.ticks or self.open_at_exit or not self.unwaited or self.calls or self.no_calls)
+        """Whether it says more of them than which faults and statuses they have, or may do so by its function."""
+        says = self.ticks or self.open_at_exit or not self.unwaited or self.calls or self.no_calls
+        return bool(says or (self.check and self.runs))
 
 
 @dataclass(frozen=True)
@@ -874,7 +875,7 @@ class Images:
 
     def lines(self, programs: Iterable[str], files: Mapping[str, Content]) -> list[str]:
         own = {f"/{name}" for name in programs} | {path for path in files if not path.endswith("/")}
-        lines = [self.line_of(line) for line in self.base if line.path not in own]
+        lines = [text for line, text in self.base_lines if line.path not in own]
         known = {line.path for line in self.base if line.kind == "dir"}
         for path in files:
             for above in [*parents(path), *([path.rstrip("/")] if path.endswith("/") else [])]:
@@ -885,6 +886,10 @@ class Images:
         return lines + [
             f"file {path} {self.host_file(content)}" for path, content in files.items() if not path.endswith("/")
         ]
+
+    @functools.cached_property
+    def base_lines(self) -> list[tuple[ManifestLine, str]]:
+        return [(line, self.line_of(line)) for line in self.base]
 
     def line_of(self, line: ManifestLine) -> str:
         rest = str(self.linked(pathlib.Path(line.rest))) if line.kind == "file" else line.rest

@@ -5,7 +5,7 @@ import { bytesAt, listAt, textAt } from "./memory.js";
 import { say } from "./words.js";
 
 const MOST_BYTES = 32; // that are shown
-const MOST_KEPT = 4096; // of a write
+const MOST_KEPT = MOST_BYTES + 1; // of a read or a write
 const A0 = 10;
 const A7 = 17;
 
@@ -35,14 +35,9 @@ const CALLS = {
 };
 export const FORK = 1;
 export const EXIT = 2;
-export const PIPE = 4;
 export const READ = 5;
 export const EXEC = 7;
-export const CHDIR = 9;
-export const DUP = 10;
-export const OPEN = 15;
 export const WRITE = 16;
-export const CLOSE = 21;
 
 export const callName = (number) => CALLS[number]?.name ?? say("call-number", { number });
 
@@ -67,11 +62,6 @@ export function waitsFor({ call, registers }) {
   const known = { [READ]: "waits-read", [WRITE]: "waits-write", 3: "waits-child", 13: "waits-ticks" }[call];
   return known ? say(known, { number }) : say("waits-call", { call: callName(call) });
 }
-
-const numberAt = (machine, pid, address) => {
-  const bytes = bytesAt(machine, pid, address, 4);
-  return bytes.length < 4 ? null : new DataView(bytes.buffer).getInt32(0, true);
-};
 
 function told(machine, process, kind, index) {
   const value = process.registers[A0 + index];
@@ -286,7 +276,6 @@ export class Calls {
     const answer = low(process.registers[A0]);
     Object.assign(line, { answer, end: position });
     if (line.number === READ && answer >= 0) this.spell(line, bytesAt(machine, process.pid, line.values[1], this.room(answer)));
-    if (line.number === PIPE && answer === 0) line.ends = [0n, 4n].map((by) => numberAt(machine, process.pid, line.values[0] + by));
     if (line.number === WRITE && position === line.at + 1 && machine.written() > line.written) this.wrote(line.at);
   }
 }

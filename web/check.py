@@ -343,10 +343,10 @@ class Check:
         self.start(self.address, 1280)
         self.portrait()
         shown = self.text("pipes")
-        for part in ("Pipe 1", "echo (descriptor 1)", '"hi\\n"', "3 of 512 bytes", "sh (descriptor 3)"):
+        for part in ("Pipe 0", "echo (descriptor 1)", '"hi\\n"', "3 of 512 bytes", "sh (descriptor 3)"):
             if part not in shown:
                 raise SystemExit(f"the picture of the pipe has no {part!r}: {shown!r}")
-        self.equal("writes pipe 1" in self.text("descriptors"), True, "bytes in a pipe are shown, and who holds its ends")
+        self.equal("writes pipe 0" in self.text("descriptors"), True, "bytes in a pipe are shown, and who holds its ends")
 
     def back_to_key(self):
         self.browser.js("document.querySelector('[data-back=key]').click()")

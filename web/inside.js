@@ -1,5 +1,5 @@
 // What a process holds: its descriptors, the pipes, and the tables by which an address is found.
-import { pipesOf } from "./descriptors.js";
+import { pathOf, pipesOf } from "./descriptors.js";
 import { quote } from "./calls.js";
 import { element, replace } from "./elements.js";
 import { PAGE } from "./memory.js";
@@ -9,22 +9,20 @@ import { say } from "./words.js";
 const SHOWN = 24; // bytes of a pipe
 const TABLE = 512; // entries
 const BYTES = 8; // in a row of a page
-const ACCESS = { 0: "flags-r", 1: "flags-w", 2: "flags-rw", 3: "flags-w" };
+const ROOT = 1;
 
 const hex = (value) => `0x${value.toString(16)}`;
 
-function descriptorItem(machine, [number, file]) {
-  if (file.pipe) return element("li", {}, element("b", {}, String(number)), say(file.end === 5 ? "reads-pipe" : "writes-pipe", { number: file.pipe.number }));
-  const isDevice = machine.find(file.path)?.kind === "device";
-  const text = say(isDevice ? "opened-device" : "opened", { path: file.path, access: say(ACCESS[file.flags & 3]), offset: file.offset });
-  return element("li", {}, element("b", {}, String(number)), text);
+function openedText(machine, { kind, number, offset, access }) {
+  if (kind === "read-end" || kind === "write-end") return say(kind === "read-end" ? "reads-pipe" : "writes-pipe", { number });
+  const path = pathOf(machine, number) || (number === ROOT ? "/" : say("inode-number", { number }));
+  return say(kind === "file" ? "opened" : "opened-device", { path, access: say(`flags-${access}`), offset });
 }
 
 /** The descriptors of a process. */
-export function showDescriptors(list, machine, holdings, pid) {
-  if (!holdings) return replace(list, [element("li", { class: "none" }, say("descriptors-unknown"))]);
-  const held = [...(holdings.held.get(pid) ?? [])].sort(([one], [two]) => one - two);
-  return replace(list, held.length > 0 ? held.map((one) => descriptorItem(machine, one)) : [element("li", { class: "none" }, say("no-descriptors"))]);
+export function showDescriptors(list, machine, pid) {
+  const items = machine.descriptors(pid).map((held) => element("li", {}, element("b", {}, String(held.descriptor)), openedText(machine, held)));
+  replace(list, items.length > 0 ? items : [element("li", { class: "none" }, say("no-descriptors"))]);
 }
 
 function holderItem({ pid, descriptors, waits }, nameOf, word) {
@@ -48,10 +46,9 @@ function pipeFigure(pipe, nameOf) {
 }
 
 /** The pipes as a picture: who holds which end, the bytes in between, and who waits. */
-export function showPipes(pane, holdings, nameOf) {
-  if (!holdings) return replace(pane, []);
-  const pipes = pipesOf(holdings);
-  return replace(pane, pipes.length > 0 ? pipes.map((pipe) => pipeFigure(pipe, nameOf)) : [element("p", { class: "none" }, say("no-pipes"))]);
+export function showPipes(pane, machine, processes, nameOf) {
+  const pipes = pipesOf(machine, processes);
+  replace(pane, pipes.length > 0 ? pipes.map((pipe) => pipeFigure(pipe, nameOf)) : [element("p", { class: "none" }, say("no-pipes"))]);
 }
 
 const FRAME_PAGE = 0x3fffffen; // of the trap frame, which the kernel has for each process

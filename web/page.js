@@ -1,6 +1,6 @@
 // The page: a machine, what it is given by buttons and keys, and what is shown of it in three views over one line of time.
 import { countsText, drawBar, positionAt, positionText } from "./bar.js";
-import { holdingsAt, programOf } from "./descriptors.js";
+import { programOf } from "./descriptors.js";
 import { Disk } from "./disk.js";
 import { blockAt, showBlock, showBlocks, showInodes, showMap, showMapLegend, showSuper } from "./diskview.js";
 import { REGISTERS } from "./disassembly.js";
@@ -428,10 +428,10 @@ class Page {
   }
 
   showHeld(processes, process, nameOf) {
-    const holdings = holdingsAt(this.driver.calls, this.driver.position, processes);
-    byId("note-all").hidden = holdings !== null;
-    showDescriptors(byId("descriptors"), this.driver.machine, holdings, process.pid);
-    showPipes(byId("pipes"), holdings, nameOf);
+    const { calls, machine, position } = this.driver;
+    byId("note-all").hidden = calls.from === 0 && calls.knows(position);
+    showDescriptors(byId("descriptors"), machine, process.pid);
+    showPipes(byId("pipes"), machine, processes, nameOf);
   }
 
   keepRegisters({ pid, registers }) {
