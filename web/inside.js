@@ -77,6 +77,24 @@ function entriesOf(process, page, address) {
   return rows;
 }
 
+const FLAGS = "VRWXUGAD";
+const LEAF = 0b1110n; // R, W or X
+
+// An entry of a page table: its flags, and the frame or table that it names.
+function entryText(entry) {
+  if (!(entry & 1n)) return say("entry-none");
+  const flags = [...FLAGS].filter((_, bit) => (entry >> BigInt(bit)) & 1n).join(" ");
+  return say(entry & LEAF ? "entry-to-frame" : "entry-to-table", { flags, frame: hex((entry >> 10n) & ((1n << 44n) - 1n)) });
+}
+
+// The rows of a walk: as the machine has them, or as they follow from the process's size and page.
+function rowsOfWalk(machine, process, page, address) {
+  const entries = machine.walk(process.pid, address);
+  if (!entries) return entriesOf(process, page, address);
+  const indexOf = (level) => Number((address >> BigInt(12 + 9 * level)) & 511n);
+  return entries.map((entry, at) => ({ level: 2 - at, index: indexOf(2 - at), text: entryText(entry) }));
+}
+
 /** The address that a text names: a number, or a register's. `null` where it names none. */
 export function addressOf(text, process, registers) {
   const word = text.trim();
@@ -91,7 +109,7 @@ export function showWalk({ pane, bytes }, machine, process, address) {
   const isIn = address >> 38n === 0n;
   const page = isIn ? machine.page(process.pid, address / BigInt(PAGE)) : null;
   const offset = Number(address % BigInt(PAGE));
-  const rows = isIn ? entriesOf(process, page, address) : [];
+  const rows = isIn ? rowsOfWalk(machine, process, page, address) : [];
   const items = rows.map(({ level, index, text }) => element("li", {}, element("b", {}, say("table-entry", { level, index })), text));
   const found = () => say("walk-found", { page: Number(address / BigInt(PAGE)), marks: markText(page), offset: hex(offset) });
   const end = page ? found() : say(isIn ? "walk-none" : "walk-outside");

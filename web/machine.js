@@ -19,6 +19,7 @@ const KINDS = ["", "directory", "file", "device"];
 const OPENED = ["", "file", "console", "device", "read-end", "write-end"];
 const DESCRIPTORS = 16;
 const DESCRIPTOR_SIZE = 32;
+const WALK_SIZE = 32;
 
 /** Why a machine stops. */
 export class Halt extends Error {
@@ -269,6 +270,13 @@ export class Machine {
       execute: (marks & EXECUTE) !== 0,
       bytes: this.heap.bytes(this.room, ROOM).slice(),
     };
+  }
+
+  /** The entries of page tables by which an address is found, from level 2 on; `null` where the module doesn't have them. */
+  walk(pid, address) {
+    if (!this.calls.xv6_raw_walk || this.calls.xv6_raw_walk(this.handle, pid, address, this.roomAt)) return null;
+    const view = new DataView(this.heap.memory.buffer, this.room, WALK_SIZE);
+    return Array.from({ length: view.getUint32(24, true) }, (_, index) => view.getBigUint64(8 * index, true));
   }
 
   freeFrames() {
