@@ -537,6 +537,10 @@ class Check:
         self.browser.click("#next-line")
         self.rest(300)
         self.equal((first, self.browser.js(current)), ("2", "3"), "a breakpoint at a line, and the next line")
+        self.look("inside")
+        self.fill("address", "text")
+        self.rest(200)
+        self.equal(self.text("walk").startswith("0x38 = "), True, "the address of a label")
 
     def failed_test(self):
         """The page of a failed test of course/grade.py opens without a net, and shows the console's failing line."""
@@ -725,6 +729,19 @@ def wide(check):
         part()
 
 
+def solve(check, browser):
+    """Solves an exercise in Firefox."""
+    if browser.js("document.getElementById('tab-write').hidden"):
+        return
+    browser.click("#tab-write")
+    texts = {"exercises": ("hello", "change"), "source": ((HELLO / "right/hello.s").read_text(), "input")}
+    for name, (text, event) in texts.items():
+        browser.js(f"(() => {{ const it = document.getElementById({json.dumps(name)}); it.value = {json.dumps(text)}; it.dispatchEvent(new Event({json.dumps(event)})); }})()")
+    browser.click("#check")
+    browser.wait("document.getElementById('said').textContent.includes('10 of 10 points')", "the exercise")
+    check.equal(browser.js("document.querySelectorAll('#results .right').length"), 2, "an exercise is solved in Firefox")
+
+
 def firefox(check, image):
     """The same console in Firefox, and pictures of the views."""
     if not Firefox.program():
@@ -746,6 +763,7 @@ def firefox(check, image):
         browser.wait("document.getElementById('link').value.includes('#session=')", "the link")
         console, _ = check.run(script_of(browser.js("document.getElementById('link').value")))
         check.equal(screen, check.shown(console), "four lines in Firefox")
+        solve(check, browser)
         for view in VIEWS:
             browser.click(f"#tab-{view}")
             time.sleep(0.4)

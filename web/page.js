@@ -440,9 +440,15 @@ class Page {
     this.registers = { before: isSame ? this.registers.now : null, now: registers, pid };
   }
 
+  // The address that is looked at: a number, a register's, or that of a label of what is written.
+  wantedAddress(process) {
+    const text = byId("address").value || "pc";
+    return addressOf(text, process, REGISTERS) ?? this.workshop?.addressOf(text.trim()) ?? null;
+  }
+
   showMemory(process, processes) {
     const { machine, breaks } = this.driver;
-    const address = addressOf(byId("address").value || "pc", process, REGISTERS);
+    const address = this.wantedAddress(process);
     const positions = { picture: byId("pages"), legend: byId("legend") };
     const page = address === null ? -1 : Number(address / BigInt(PAGE_SIZE));
     showPages(positions, machine, process, processes, page, (number) => this.choosePage(number));
@@ -674,7 +680,7 @@ function wireViews(page) {
   byId("address").addEventListener("input", () => page.refresh());
   byId("break").addEventListener("click", () => {
     const process = page.driver.machine.process(page.chosen);
-    page.toggleBreak(Number(addressOf(byId("address").value || "pc", process, REGISTERS)));
+    page.toggleBreak(Number(page.wantedAddress(process)));
   });
   byId("block").addEventListener("input", () => page.chooseBlock(Math.max(0, Number(byId("block").value))));
   byId("map").addEventListener("click", (event) => {

@@ -200,6 +200,13 @@ export class Workshop {
     return isOwn ? this.made.rows.findLast(({ address }) => address <= Number(process.pc)) : undefined;
   }
 
+  /** The address of a label of the text; `null` where there is none. */
+  addressOf(label) {
+    const line = this.work.text.split("\n").findIndex((one) => one.trimStart().startsWith(`${label}:`)) + 1;
+    const row = line > 0 && this.made.rows.find((one) => one.line >= line);
+    return row ? BigInt(row.address) : null;
+  }
+
   /** Goes on until another line of the text is to be done, or nobody is ready. */
   nextLine() {
     const { driver } = this.page;
