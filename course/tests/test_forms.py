@@ -19,6 +19,7 @@ sys.path.insert(0, str(HERE.parent))
 
 import grade  # noqa: E402
 import merge  # noqa: E402
+import pack  # noqa: E402
 
 RUBRIC = """\
 title = "Lab <&> \\"util\\""
@@ -134,6 +135,19 @@ class Merges(unittest.TestCase):
             self.assertEqual([suite.get("failures") for suite in suites], ["0", "1"])
             (folder / "eve.json").write_text("{")
             self.assertEqual(merge.main([name]), 3)
+
+
+class Packs(unittest.TestCase):
+    def test_what_the_page_judges(self):
+        test = {"name": "one", "points": 1, "type": ["ls"]}
+        cases = {
+            "check: the page can't judge by that": {"check": "file:name"},
+            "(?i)ls: the page has other regular expressions": {"match": ["(?i)ls"]},
+        }
+        for fault, more in cases.items():
+            self.assertEqual(pack.fault_of({"programs": ["ls"], "test": [test | more]}), fault)
+        self.assertIsNone(pack.fault_of({"programs": ["ls"], "test": [test | {"not": ["^(?:a|b)$"]}]}))
+        self.assertEqual(pack.fault_of({"programs": [], "test": [test]}), "programs: one is wanted")
 
 
 if __name__ == "__main__":
