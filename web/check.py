@@ -516,6 +516,20 @@ class Check:
         self.browser.wait(f"document.getElementById('screen').textContent === {json.dumps(screen)}", "the link of the failed test")
         self.equal(self.browser.js("document.getElementById('source').value"), (HELLO / "start.s").read_text(), "it is replayed, with its text")
 
+    def puts(self):
+        """Before anything is typed a file is put on the image."""
+        self.start(self.address, 1280)
+        if not self.writes:
+            return
+        given = bytes(range(256)) * 16
+        (self.folder / "before.bin").write_bytes(given)
+        self.browser.give_file("#file-input", self.folder / "before.bin")
+        self.said("before.bin is on the image", "the file that is put")
+        self.settle("the machine with the file")
+        self.browser.wait("document.getElementById('save-/before.bin') !== null", "the file in the tree")
+        self.browser.click('[id="save-/before.bin"]')
+        self.equal(self.browser.downloaded("before.bin"), given, "4 kB are on the disk before the first key")
+
     def lines_by_steps(self):
         """A breakpoint at a line of an own text, and the next line."""
         self.start(self.address, 1280)
@@ -725,7 +739,7 @@ def use(check, width):
 def wide(check):
     """What is looked at in a wide window alone."""
     print("views and time:")
-    for part in (check.pipes, check.travels, check.breaks, check.crashes, check.races, check.exercises, check.lines_by_steps, check.failed_test, check.speaks, check.above_the_fold, check.stops, check.helps, check.framed, check.times):
+    for part in (check.pipes, check.travels, check.breaks, check.crashes, check.races, check.exercises, check.puts, check.lines_by_steps, check.failed_test, check.speaks, check.above_the_fold, check.stops, check.helps, check.framed, check.times):
         part()
 
 
