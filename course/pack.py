@@ -16,7 +16,8 @@ import tomllib
 import grade
 
 MACHINE = {"manifest", "frames", "steps", "schedules", "size", "inodes"}
-TEST = {"name", "points", "type", "files", "hint", "output", "lines", "match", "not", "left", "frames", "steps", "schedules"}
+CONDITIONS = {"output", "lines", "match", "not", "left"}
+TEST = {"name", "points", "type", "files", "hint", "frames", "steps", "schedules"} | CONDITIONS
 TOP = {"title", "points", "programs", "machine", "test"}
 # What a regular expression of Python means otherwise in a browser, or not at all.
 OWN_PATTERN = re.compile(r"\\[AZ]|\(\?[aiLmsuxP(]")
@@ -45,8 +46,10 @@ def content(folder, value):
 
 
 def packed_test(folder, test):
-    files = {key: {path: content(folder, value) for path, value in test.get(key, {}).items()} for key in ("files", "left")}
-    return test | files
+    def contents(key):
+        return {path: content(folder, value) for path, value in test.get(key, {}).items()}
+
+    return test | {key: contents(key) for key in ("files", "left")}
 
 
 class Files:

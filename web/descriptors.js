@@ -1,4 +1,4 @@
-// The descriptors and pipes of a machine, as its library shows them, and the names of the programs that processes began.
+// The descriptors and pipes of a machine, as its library shows them, and the programs that processes began.
 import { EXEC, FORK } from "./calls.js";
 
 const ROOM = 512; // bytes of a pipe
@@ -27,14 +27,16 @@ function addEnds(pipes, held) {
 export function pipesOf(machine, processes) {
   const pipes = new Map();
   for (const { pid, state } of processes) if (state !== "ended") addEnds(pipes, heldBy(machine, pid));
-  return [...pipes.values()].sort((one, two) => one.number - two.number).map((pipe) => ({ ...pipe, bytes: machine.pipe(pipe.number), room: ROOM }));
+  const all = [...pipes.values()].sort((one, two) => one.number - two.number);
+  return all.map((pipe) => ({ ...pipe, bytes: machine.pipe(pipe.number), room: ROOM }));
 }
 
 /** The path of an inode; empty where no name leads there. */
 export function pathOf(machine, inode, directory = undefined, above = "/", depth = 8) {
   for (const file of machine.names(directory)) {
     if (file.inode === inode) return above + file.name;
-    const below = file.kind === "directory" && depth > 0 ? pathOf(machine, inode, file.inode, `${above}${file.name}/`, depth - 1) : "";
+    if (file.kind !== "directory" || depth === 0) continue;
+    const below = pathOf(machine, inode, file.inode, `${above}${file.name}/`, depth - 1);
     if (below) return below;
   }
   return "";

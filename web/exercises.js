@@ -23,24 +23,28 @@ function chanceOf(seed) {
 function namesOf(seed) {
   const chance = chanceOf(seed);
   const names = new Set();
-  while (names.size < NAMES) names.add(Array.from({ length: NAME_LENGTH }, () => LETTERS[chance(LETTERS.length)]).join(""));
+  const letter = () => LETTERS[chance(LETTERS.length)];
+  while (names.size < NAMES) names.add(Array.from({ length: NAME_LENGTH }, letter).join(""));
   return [...names];
 }
 
 // A test in which names are filled in.
 function filled(test, names) {
   const fill = (text) => text.replace(/%(%|[1-9])/g, (_, sign) => (sign === "%" ? "%" : names[Number(sign) - 1]));
-  const fillAll = (value) => (typeof value === "string" ? fill(value) : Array.isArray(value) ? value.map(fillAll) : value);
-  const fillTable = (table = {}) => Object.fromEntries(Object.entries(table).map(([path, value]) => [fill(path), fillAll(value)]));
+  const fillAll = (value) => {
+    if (typeof value === "string") return fill(value);
+    return Array.isArray(value) ? value.map(fillAll) : value;
+  };
+  const fillEntry = ([path, value]) => [fill(path), fillAll(value)];
+  const fillTable = (table = {}) => Object.fromEntries(Object.entries(table).map(fillEntry));
   const whole = Object.fromEntries(Object.entries(test).map(([key, value]) => [key, fillAll(value)]));
   return { ...whole, files: fillTable(test.files), left: fillTable(test.left) };
 }
 
-// The directories above a path, from the root on, and the path itself where it is one.
+// The directories above a path, from the root on, and the path itself where it ends with a slash.
 function directoriesOf(path) {
-  const parts = path.split("/").slice(1);
-  const count = path.endsWith("/") ? parts.length - 1 : parts.length;
-  return Array.from({ length: count - (path.endsWith("/") ? 0 : 1) }, (_, index) => `/${parts.slice(0, index + 1).join("/")}`);
+  const parts = path.split("/").slice(1, -1);
+  return parts.map((_, index) => `/${parts.slice(0, index + 1).join("/")}`);
 }
 
 /** The exercises, of what course/pack.py wrote. */
@@ -61,7 +65,10 @@ export class Exercises {
     return test && filled(test, namesOf(`${seed} ${exercise.name} ${name}`));
   }
 
-  /** The image of an exercise with a program and more files: their texts by their paths. Its entries are in the order of course/grade.py's. */
+  /**
+   * The image of an exercise with a program and more files: their texts by their paths. Its entries are in the order of
+   * course/grade.py's.
+   */
   image(exercise, program, files = {}) {
     const own = `/${exercise.program}`;
     const base = exercise.manifest.filter(({ path }) => path !== own && !(path in files));
@@ -72,11 +79,13 @@ export class Exercises {
       known.add(path);
     }
     if (!(own in files)) entries.push({ kind: "file", path: own, bytes: program });
-    for (const [path, text] of Object.entries(files)) if (!path.endsWith("/")) entries.push({ kind: "file", path, bytes: latin(text) });
+    for (const [path, text] of Object.entries(files)) {
+      if (!path.endsWith("/")) entries.push({ kind: "file", path, bytes: latin(text) });
+    }
     return mkfs(this.module, entries, exercise.machine);
   }
 
-  /** Runs a test under each schedule, up to the first under which something is wrong: what is wrong, and the run's schedule and events. */
+  /** Runs a test up to the first schedule under which something is wrong: what is wrong, the schedule and the events. */
   run(exercise, name, seed, program) {
     const test = this.test(exercise, name, seed);
     const image = this.image(exercise, program, test.files);

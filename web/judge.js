@@ -1,8 +1,6 @@
-// Judges a test of an exercise as course/grade.py does: by how the run ended, by what was printed after the last typed line, by files and by faults.
+// Judges a test of an exercise as course/grade.py does: by how the run ended, by what was printed after the last typed
+// line, by files and by faults.
 import { say } from "./words.js";
-
-/** What the rubric of an exercise may say of a test, beside names, points, typed lines and files; course/pack.py refuses other keys. */
-export const CONDITIONS = ["output", "lines", "match", "not", "left"];
 
 const LINE_LIMIT = 1000; // letters of a line on which a regular expression is tried
 const FAULTS_SHOWN = 5;
@@ -42,8 +40,9 @@ function judgeLines(wanted, lines) {
 
 function judgePatterns({ match = [], not = [] }, lines) {
   const hits = (pattern) => lines.filter((line) => new RegExp(pattern).test(line.slice(0, LINE_LIMIT)));
-  const missing = match.filter((pattern) => hits(pattern).length === 0).map((pattern) => say("judge-no-match", { pattern }));
-  return missing.concat(not.flatMap((pattern) => hits(pattern).map((line) => say("judge-match", { pattern, line: quoted(line) }))));
+  const missing = match.filter((pattern) => hits(pattern).length === 0);
+  const matched = (pattern) => hits(pattern).map((line) => say("judge-match", { pattern, line: quoted(line) }));
+  return [...missing.map((pattern) => say("judge-no-match", { pattern })), ...not.flatMap(matched)];
 }
 
 function judgeFile(path, wanted, found) {
@@ -54,9 +53,10 @@ function judgeFile(path, wanted, found) {
 }
 
 /**
- * What is wrong with a run, in sentences; none where all is right. `test` is a test of a rubric, in which names are filled in. `seen` is
- * `{ end, steps, output, faults, file }`: "done", or why not; how many steps were waited; a letter for each byte of what was printed; the faults
- * in words; a function from a path to a file's text, or null where there is none.
+ * What is wrong with a run, in sentences; none where all is right. `test` is a test of a rubric, in which names are
+ * filled in. `seen` is `{ end, steps, output, faults, file }`: "done", or why not; how many steps were waited; a letter
+ * for each byte of what was printed; the faults in words; a function from a path to a file's text, or null where there
+ * is none.
  */
 export function judged(test, seen) {
   const lines = linesOf(seen.output);

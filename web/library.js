@@ -1,4 +1,4 @@
-// What the module does without a machine: it assembles texts and makes images. Each function says whether the module has it.
+// What the module does without a machine: it assembles texts and makes images.
 import { rowsOf } from "./rows.js";
 import { say } from "./words.js";
 
@@ -34,13 +34,16 @@ function refuse(number) {
   if (number) throw new Error(say(number === NO_MEMORY ? "boot-4" : `library-${number}`));
 }
 
+// What comes of a text with faults.
+const refused = (faults) => ({ program: null, rows: [], faults });
+
 // What `xv6 asm` makes of a text.
 function assembleSmall({ heap, calls }, text) {
   const bytes = toBytes(text);
   return withBlocks(heap, [bytes, MOST_PROGRAM, 16], (from, out, told) => {
     const number = calls.xv6_raw_asm(...big(from, bytes.length, out, MOST_PROGRAM, told));
     if (number === NO_MEMORY) refuse(number);
-    if (number) return { program: null, rows: [], faults: [{ line: numberAt(heap, told + 8), column: 0, text: say(`library-${number}`) }] };
+    if (number) return refused([{ line: numberAt(heap, told + 8), column: 0, text: say(`library-${number}`) }]);
     const program = heap.bytes(out, numberAt(heap, told)).slice();
     return { program, rows: rowsOf(text, program), faults: [] };
   });
@@ -52,22 +55,26 @@ function reported(line) {
   return [Number(first), Number(second), text];
 }
 
+const isLabel = (words) => words.endsWith(":");
+
 // What `xv6 as` makes of a text.
 function assembleLarge({ heap, calls }, text) {
   const bytes = toBytes(text);
   return withBlocks(heap, [bytes, MOST_PROGRAM, MOST_REPORT, 16], (from, out, report, told) => {
     const number = calls.xv6_raw_as(...big(from, bytes.length, out, MOST_PROGRAM, report, MOST_REPORT, told));
     if (number === NO_MEMORY) refuse(number);
-    const lines = textAt(heap, report, Math.min(numberAt(heap, told + 8), MOST_REPORT)).split("\n").filter(Boolean).map(reported);
-    if (number) return { program: null, rows: [], faults: lines.map(([line, column, words]) => ({ line, column, text: words })) };
-    const rows = lines.map(([line, address, words]) => ({ line, address, text: words }));
+    const all = textAt(heap, report, Math.min(numberAt(heap, told + 8), MOST_REPORT));
+    const lines = all.split("\n").filter(Boolean).map(reported);
+    if (number) return refused(lines.map(([line, column, words]) => ({ line, column, text: words })));
+    const kept = lines.filter(([, , words]) => !isLabel(words));
+    const rows = kept.map(([line, address, words]) => ({ line, address, text: words }));
     return { program: heap.bytes(out, numberAt(heap, told)).slice(), rows, faults: [] };
   });
 }
 
 /**
- * Assembles a text in a language, `asm` or `as`: its program's file, or null; the rows that its lines became, each with line, address and text;
- * and what is wrong with it, each with line, column (0: the whole line) and text.
+ * Assembles a text in a language, `asm` or `as`: its program's file, or null; the rows that its lines became, each with
+ * line, address and text; and what is wrong with it, each with line, column (0: the whole line) and text.
  */
 export const assemble = (module, language, text) => (language === "as" ? assembleLarge : assembleSmall)(module, text);
 

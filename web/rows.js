@@ -1,4 +1,4 @@
-// What each line of a text of `xv6 asm` became: its address, and its instructions or bytes, as the program's file has them.
+// What each line of a text of `xv6 asm` became: its address, and its instructions or bytes, as in the program's file.
 import { disassemble } from "./disassembly.js";
 import { firstPart } from "./names.js";
 

@@ -60,9 +60,12 @@ class Stop extends Error {
   }
 }
 
-/** What became of a run: `end`, `steps`, `output`, `faults`, `file(path)`, as the judge takes it, and the `record` that replays it. */
+/**
+ * What became of a run: `end`, `steps`, `output`, `faults`, `file(path)`, as the judge takes it, and the `record` that
+ * replays it.
+ */
 export class Trial {
-  /** Types lines at the shell, each at its prompt, with ticks by a schedule; each may take so many steps. With `looks` it sees faults. */
+  /** Types lines at the shell, each at its prompt, with ticks by a schedule. With `looks` faults are seen. */
   constructor(module, image, { frames, steps, schedule, lines, looks }) {
     this.machine = Machine.boot(module, image, frames);
     this.record = new Record(frames);
@@ -92,7 +95,9 @@ export class Trial {
   // Types a line, and waits for the next prompt. What it printed is the output.
   enter(line, steps) {
     const from = this.printed.length;
-    for (const byte of bytesOf(`${line}\n`)) this.give({ kind: "keys", times: 1, bytes: [byte] }, () => this.machine.key(byte));
+    for (const byte of bytesOf(`${line}\n`)) {
+      this.give({ kind: "keys", times: 1, bytes: [byte] }, () => this.machine.key(byte));
+    }
     try {
       this.wait(steps);
     } finally {

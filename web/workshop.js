@@ -109,7 +109,8 @@ export class Workshop {
       if (this.work !== work) return undefined; // another exercise was chosen
     }
     const score = results.reduce((sum, { points, said }) => sum + (said.length > 0 ? 0 : points), 0);
-    return this.page.say(say(score === exercise.points ? "exercise-right" : "exercise-wrong", { score, points: exercise.points }));
+    const isRight = score === exercise.points;
+    return this.page.say(say(isRight ? "exercise-right" : "exercise-wrong", { score, points: exercise.points }));
   }
 
   showResults(results) {
@@ -118,7 +119,7 @@ export class Workshop {
 
   resultItem({ name, points, hint, said, schedule, events }, index) {
     const isRight = said.length === 0;
-    const head = element("b", {}, say(isRight ? "test-right" : "test-wrong", { name, points: isRight ? points : 0, of: points }));
+    const head = element("b", {}, say(isRight ? "test-right" : "test-wrong", { name, points }));
     if (isRight) return element("li", { class: "right" }, head);
     const ticks = schedule ? [element("p", {}, say("under-schedule", { schedule }))] : [];
     const words = said.slice(0, 4).map((sentence) => element("p", {}, sentence));
