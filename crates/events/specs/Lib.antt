@@ -1,0 +1,4 @@
+pub mod Scripts
+pub mod Rows
+pub mod Records
+pub mod Transcripts
