@@ -1,4 +1,6 @@
 //! Where a play is.
+ghost use Rattle.std.specs.Prelude.{◌≡◌, IfNone, IfSome, option_map, slice_get};
+ghost use Rattle.playtext.specs.Places.{after_deed, begun, closed, first_place, noted, opened};
 
 use crate::grammar::{Act, Deed, MOST_DEPTH};
 use arrayvec::ArrayVec;
@@ -15,26 +17,32 @@ struct Round {
 #[derive(Drop)]
 pub struct Place {
     at: usize,
-    open: ArrayVec<Round, MOST_DEPTH>,
+    rounds: ArrayVec<Round, MOST_DEPTH>,
 }
 
 impl Place {
     /// The first act.
-    pub fn new() -> Place {
+    pub fn new() -> Place
+        ensures { result ≡ first_place }
+    {
         Place {
             at: 0,
-            open: ArrayVec::new(),
+            rounds: ArrayVec::new(),
         }
     }
 
     // Begins a round.
-    fn begin(&mut self, start: usize, left: u32) {
+    fn begin(&mut self, start: usize, left: u32)
+        ensures { self.new ≡ begun self.old start left }
+    {
         let gave = false;
-        let _ = self.open.try_push(Round { start, left, gave });
+        let _ = self.rounds.try_push(Round { start, left, gave });
     }
 
     // A repeat begins.
-    fn open(&mut self, times: u32, end: usize) {
+    fn open(&mut self, times: u32, end: usize)
+        ensures { self.new ≡ opened self.old times end }
+    {
         match times.checked_sub(1) {
             None => self.at = end,
             Some(left) => self.begin(self.at, left),
@@ -42,10 +50,11 @@ impl Place {
     }
 
     // A round of the last repeat ends. One without an event leaves all as it was, so that no later one would give any:
-    // it is the
-    // last.
-    fn close(&mut self) {
-        let Some(Round { start, left, gave }) = self.open.pop() else {
+    // it is the last.
+    fn close(&mut self)
+        ensures { self.new ≡ closed self.old }
+    {
+        let Some(Round { start, left, gave }) = self.rounds.pop() else {
             return;
         };
         if !gave {
@@ -59,16 +68,23 @@ impl Place {
     }
 
     /// The act that came last gave an event.
-    pub fn note_event(&mut self) {
-        if let Some(round) = self.open.last_mut() {
-            round.gave = true;
+    pub fn note_event(&mut self)
+        ensures { self.new ≡ noted self.old }
+    {
+        if let Some(Round { start, left, .. }) = self.rounds.pop() {
+            let gave = true;
+            let _ = self.rounds.try_push(Round { start, left, gave });
         }
     }
 
     /// The act that comes next; none after the last.
-    pub fn next_act<'b, 'a>(&mut self, acts: &'b [Act<'a>]) -> Option<&'b Act<'a>> {
+    pub fn next_act<'b, 'a>(&mut self, acts: &'b [Act<'a>]) -> Option<&'b Act<'a>>
+        ensures act { option_map (λ act. act.now) result ≡ slice_get acts.now self.old.at }
+        ensures goes { IfSome result (λ act. self.new ≡ after_deed self.old act.now.deed) }
+        ensures ends { IfNone result (self.new ≡ self.old) }
+    {
         let act = acts.get(self.at)?;
-        self.at = self.at.saturating_add(1);
+        self.at += 1;
         match act.deed {
             Deed::Repeat { times, end } => self.open(times, end),
             Deed::End => self.close(),
