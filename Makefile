@@ -182,11 +182,11 @@ check-web: out/web/checked.html
 check-qemu: | program
 	trials/qemu/compare.py $(PROGRAM)
 
-# Assembles the examples of docs/ASSEMBLY.md, and runs the programs of examples/assembly.
+# Assembles the examples of docs/ASSEMBLY.md, and runs the programs of examples/assembly, with the exercises there.
 check-assembly: | program
 	trials/assembly.py $(PROGRAM)
 
-# Compares what `xv6 as` makes with the files of GNU as and ld, for random texts and for what gcc makes of the C programs.
+# Compares what `xv6 as` makes with the files of GNU as and ld: for random texts, exercises as textbooks have them, what gcc makes of C.
 .PHONY: check-as
 check-as: | program
 	trials/as.py $(PROGRAM)

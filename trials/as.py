@@ -1,7 +1,8 @@
 #!/usr/bin/env python3
 """as.py PROGRAM [COUNT], as.py --rows: compares the files that `xv6 as` makes with those of GNU as and ld, byte for byte.
 
-First COUNT random texts of all forms (300), then what gcc makes of the C programs of examples/c and user-c, if it is there.
+First COUNT random texts of all forms (300), then the exercises of examples/assembly/textbook, then what gcc makes of
+the C programs of examples/c and user-c, if it is there.
 Then texts with random changes, of which each fault has to name a line that exists.
 ld puts all sections into one, from address 0 on, in the order text, rodata, data, bss.
 With --rows it writes the texts of crates/assembly_rows: 300 random ones, each with the length and the sum of the bytes of GNU as and ld."""
@@ -20,7 +21,7 @@ LAYOUT = """SECTIONS {
     . = 0;
     .all : {
         *(.text .text.* .init .init.*) *(.rodata .rodata.* .srodata .srodata.*)
-        *(.data .data.* .sdata .sdata.*) *(.bss .bss.* .sbss .sbss.*)
+        *(.data .data.* .sdata .sdata.*) *(.bss .bss.* .sbss .sbss.*) *(COMMON)
         BYTE(1)
     }
     /DISCARD/ : { *(*) }
@@ -281,6 +282,19 @@ def random_texts(program, folder, count):
     return wrong
 
 
+def exercises(program, folder):
+    """The texts as textbooks have them, which both have to take."""
+    wrong, texts = 0, sorted(TOP.glob("examples/assembly/textbook/**/*.s"))
+    for text in texts:
+        shutil.copy(text, folder / text.name)
+        difference, is_both = compared(program, folder, [folder / text.name])
+        if difference or not is_both:
+            wrong += 1
+            print(f"{text}: {difference or 'both refuse it'}")
+    print(f"{len(texts)} exercises, {wrong} different")
+    return wrong
+
+
 def sum_of(data):
     """FNV-1a."""
     value = 0xCBF29CE484222325
@@ -387,7 +401,8 @@ def main():
     count = int(sys.argv[2]) if len(sys.argv) > 2 else 300
     with tempfile.TemporaryDirectory() as folder:
         folder = pathlib.Path(folder)
-        return 1 if random_texts(program, folder, count) + compiled(program, folder) + mutants(program, folder, count) else 0
+        wrong = random_texts(program, folder, count) + exercises(program, folder) + compiled(program, folder)
+        return 1 if wrong + mutants(program, folder, count) else 0
 
 
 if __name__ == "__main__":

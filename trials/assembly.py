@@ -1,5 +1,6 @@
 #!/usr/bin/env python3
 """assembly.py PROGRAM: tries the examples of docs/ASSEMBLY.md, and runs the programs of examples/assembly.
+Those of examples/assembly/textbook are run by its init.s, and have to end with status 0.
 
 In the table of words each example is assembled; in that of other assemblers' texts each on the left is refused by `asm` and taken by
 `as`, and each on the right that is code alone is assembled. The forms of `as` are taken, and its faults are those that the page shows.
@@ -76,28 +77,64 @@ def reported(program, page, folder):
     return [] if said == lines else [f"as reports {said}"]
 
 
-def shown(program, name, folder):
-    """What the console shows of a program."""
-    keys = os.path.join(TOP, "examples/assembly", name + ".keys")
-    typed = "".join(f"type {line}" for line in open(keys)) if os.path.exists(keys) else ""
-    files = {"manifest": f"file /init {name}\nfile /child child\n", "script": typed + STEPS}
-    for file, text in files.items():
-        open(os.path.join(folder, file), "w").write(text)
-    subprocess.run([program, "mkfs", "--size", "64", "--inodes", "32", "manifest", "img"], cwd=folder, check=True, capture_output=True)
-    return subprocess.run([program, "run", "img", "script"], cwd=folder, capture_output=True, text=True).stdout
+def ran(program, folder, files, keys):
+    """What the console shows of an image with these files, after the lines of a file are typed, and how the machine ends."""
+    typed = "".join(f"type {line}{STEPS}" for line in open(keys)) if os.path.exists(keys) else ""
+    open(os.path.join(folder, "manifest"), "w").write(files)
+    open(os.path.join(folder, "script"), "w").write(STEPS + typed)
+    made = [program, "mkfs", "--size", "200", "--inodes", "32", "manifest", "img"]
+    subprocess.run(made, cwd=folder, check=True, capture_output=True)
+    done = subprocess.run([program, "run", "img", "script"], cwd=folder, capture_output=True, text=True)
+    return done.stdout, done.stderr.strip()
+
+
+def first(program, page, folder):
+    """What is wrong with the page's first session: its text, at the shell of the user programs."""
+    blocks = page.split("\n## The first five minutes\n")[1].split("\n## ")[0].split("```")
+    open(os.path.join(folder, "hello.s"), "w").write(blocks[1])
+    assembled(program, os.path.join(folder, "hello.s"), folder)
+    files = open(os.path.join(TOP, "user/manifest")).read()
+    for name in re.findall(r"(\S+)$", files, re.M):
+        subprocess.run([program, "asm", os.path.join(TOP, "user", name + ".s"), os.path.join(folder, name)], check=True)
+    open(os.path.join(folder, "hello.keys"), "w").write("hello\n")
+    shown, _ = ran(program, folder, files + "file /hello hello\n", os.path.join(folder, "hello.keys"))
+    wanted = blocks[3][blocks[3].index("init: "):]
+    return [] if shown.strip() == wanted.strip() else [f"the first session shows {shown}"]
+
+
+def assembled(program, text, folder):
+    """Assembles a text, and returns the name of its program."""
+    name = os.path.basename(text)[:-2]
+    subprocess.run([program, "as", text, "-o", os.path.join(folder, name)], check=True)
+    return name
 
 
 def programs(program, folder):
     """The names of the programs that don't show what they should, and how many there are."""
-    texts = sorted(glob.glob(os.path.join(TOP, "examples/assembly/*.s")))
+    top = os.path.join(TOP, "examples/assembly")
+    for text in sorted(glob.glob(top + "/*.s")):
+        if not text.endswith("lib.s"):
+            assembled(program, text, folder)
+    outs, wrong = sorted(glob.glob(top + "/*.out")), []
+    for out in outs:
+        name = os.path.basename(out)[:-4]
+        shown, _ = ran(program, folder, f"file /init {name}\nfile /child child\n", out[:-4] + ".keys")
+        if shown != open(out).read():
+            wrong.append(f"{name} shows something else")
+    return wrong, len(outs)
+
+
+def exercises(program, folder):
+    """The same for the exercises as textbooks have them."""
+    top = os.path.join(TOP, "examples/assembly/textbook")
+    init, wrong = assembled(program, top + "/init.s", folder), []
+    texts = sorted(glob.glob(top + "/*/*.s"))
     for text in texts:
-        if text.endswith("lib.s"):
-            continue
-        subprocess.run([program, "as", text, "-o", os.path.join(folder, os.path.basename(text)[:-2])], check=True)
-    names = [os.path.basename(out)[:-4] for out in sorted(glob.glob(os.path.join(TOP, "examples/assembly/*.out")))]
-    wrong = [f"{name} shows something else" for name in names
-             if shown(program, name, folder) != open(os.path.join(TOP, "examples/assembly", name + ".out")).read()]
-    return wrong, len(names)
+        name = assembled(program, text, folder)
+        shown, end = ran(program, folder, f"file /init {init}\nfile /program {name}\n", text[:-2] + ".keys")
+        if shown != open(text[:-2] + ".out").read() or end != "halt 1 InitEnded 0":
+            wrong.append(f"{text} shows something else, or ends otherwise: {end}")
+    return wrong, len(texts)
 
 
 def main():
@@ -105,12 +142,14 @@ def main():
     page = open(os.path.join(TOP, "docs/ASSEMBLY.md")).read()
     with tempfile.TemporaryDirectory() as folder:
         wrong, count = examples(program, page, folder)
+        wrong += reported(program, page, folder) + first(program, page, folder)
         odd, run = programs(program, folder)
-        odd += reported(program, page, folder)
-    for line in wrong + odd:
+        others, more = exercises(program, folder)
+    wrong += odd + others
+    for line in wrong:
         print(line)
-    print(f"{count} examples, {run} programs, {len(wrong + odd)} wrong")
-    return 1 if wrong or odd else 0
+    print(f"{count} examples, {run} programs, {more} exercises, {len(wrong)} wrong")
+    return 1 if wrong else 0
 
 
 if __name__ == "__main__":
