@@ -20,7 +20,7 @@ MOST, MOST_OF_ROWS = 120, 160
 def listed_words():
     """The words that are not written, each with what to write instead, and with phrases in which it is right."""
     part = (TOP / "CONTRIBUTING.md").read_text().split("\n## Words\n", 1)[1].split("\n## ")[0]
-    for row in re.findall(r"^\| (.*) \| (.*) \| (.*) \|$", part, re.M)[1:]:
+    for row in re.findall(r"^\| (.*) \| (.*) \|(.*)\|$", part, re.M)[1:]:
         words, good, right = ([it.strip() for it in cell.split(",") if it.strip()] for cell in row)
         for word in words:
             yield re.compile(rf"\b{re.escape(word)}\b", re.I), ", ".join(good), [re.compile(re.escape(it), re.I) for it in right]
