@@ -16,6 +16,11 @@ touch "$results/list"
 for folder in "$submissions"/*/; do basename "$folder"; done | LC_ALL=C sort |
     grep -Fxv -f "$results/list" >> "$results/list" || :
 
+# What a grader writes meanwhile lies in memory if there is room: some megabytes, which are gone within seconds.
+if [ -z "${TMPDIR:-}" ] && [ "$(df -kP /dev/shm 2> /dev/null | awk 'NR == 2 { print $4 }')0" -gt 20000000 ]; then
+    export TMPDIR=/dev/shm
+fi
+
 # parallel's own status is the number of jobs that failed. The grader's is 0 if a result was written.
 parallel -q --will-cite --joblog "$results/joblog" --resume-failed "$@" \
     python3 "$here/grade.py" --quiet --gradescope "$results/{}.json" "$rubric" "$submissions/{}" :::: "$results/list" \

@@ -803,6 +803,13 @@ def limit_host(pid: int) -> None:
         resource.prlimit(pid, resource.RLIMIT_FSIZE, (4 * TRACE_LIMIT, 4 * TRACE_LIMIT))
 
 
+# A run takes some megabytes at its start and ends soon: large pages, and one piece of memory, save a fifth of its time.
+ENVIRONMENT = {
+    "GLIBC_TUNABLES": "glibc.malloc.hugetlb=1:glibc.malloc.mmap_threshold=67108864:glibc.malloc.top_pad=16777216",
+    **os.environ,
+}
+
+
 @dataclass
 class Engine:
     """The program, and a folder for what it reads and writes."""
@@ -814,7 +821,11 @@ class Engine:
         """Calls the program. If it prints more bytes than that, it is ended."""
         with open(self.scratch / "error", "w+b") as error:
             child = subprocess.Popen(
-                [self.program, *map(str, words)], stdin=subprocess.DEVNULL, stdout=subprocess.PIPE, stderr=error
+                [self.program, *map(str, words)],
+                stdin=subprocess.DEVNULL,
+                stdout=subprocess.PIPE,
+                stderr=error,
+                env=ENVIRONMENT,
             )
             limit_host(child.pid)
             assert child.stdout
