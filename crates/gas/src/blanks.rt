@@ -147,3 +147,35 @@ pub(crate) fn length_before(text: &[u8], mark: u8) -> usize {
     }
     text.len()
 }
+
+// Whether a character is at the end, or at the start, of a word or of a text between quotes.
+fn is_of_word(c: u8) -> bool {
+    c.is_ascii_alphanumeric() || matches!(c, b'_' | b'.' | b'$' | b'"' | b'\'')
+}
+
+// Whether a word comes after the blanks that a text begins with.
+fn is_before_word(text: &[u8]) -> bool {
+    match text.trim_ascii_start() {
+        [c, ..] => is_of_word(*c),
+        [] => false,
+    }
+}
+
+/// How many characters the first argument of a macro has: a comma ends it, or a blank between two words.
+pub(crate) fn argument_length(text: &[u8]) -> usize {
+    let mut mode = Mode::Code;
+    let mut last = b',';
+    for (length, c) in text.iter().enumerate() {
+        let is_end = match *c {
+            b',' => true,
+            b' ' | b'\t' => is_of_word(last) && is_before_word(text.get(length..).unwrap_or(&[])),
+            _ => false,
+        };
+        if is_end && mode.is_open() {
+            return length;
+        }
+        last = *c;
+        mode = mode_after(mode, *c);
+    }
+    text.len()
+}

@@ -7,7 +7,7 @@ use crate::layout::padding;
 use crate::operands::{Call, Operand};
 use crate::quoted::bytes_of;
 use crate::tokens::Kind;
-use crate::value::Section;
+use crate::value::{Base, Section};
 use std::alloc::AllocError;
 
 /// How many bytes a number takes.
@@ -32,6 +32,11 @@ const STRINGS: Usage = Usage {
 const COUNT: Usage = Usage {
     takes: "how many bytes, and maybe their value",
     example: "64, 0",
+};
+
+const FILL: Usage = Usage {
+    takes: "how often, and maybe a size of up to 8 bytes and a value",
+    example: "16, 4, 0",
 };
 
 const ALIGN: Usage = Usage {
@@ -59,8 +64,30 @@ impl<'a> Assembler<'a> {
         self.put_byte(high)
     }
 
+    // The way from an address to another one, which may lie in another section.
+    fn way_between(&self, operand: &Operand<'a>) -> Result<Option<i64>, Stop> {
+        let Some((to, from)) = operand.difference() else {
+            return Ok(None);
+        };
+        let to = self.value(&to)?;
+        let from = self.value(&from)?;
+        match (to.base, from.base) {
+            (Base::Section(_, _), Base::Section(_, _)) => {
+                let way = self
+                    .layout
+                    .address(to)
+                    .wrapping_sub(self.layout.address(from));
+                Ok(Some(way))
+            }
+            _ => Ok(None),
+        }
+    }
+
     fn datum(&mut self, width: Width, operand: &Operand<'a>) -> Result<(), Stop> {
-        let number = self.address_of(operand)?;
+        let number = match self.way_between(operand)? {
+            Some(way) => way,
+            None => self.address_of(operand)?,
+        };
         let column = operand.column;
         match width {
             Width::One => {
@@ -164,6 +191,50 @@ impl<'a> Assembler<'a> {
         Ok(())
     }
 
+    // The first bytes of a number of four, and zeros after them.
+    fn put_part(&mut self, number: i64, size: u64) -> Result<(), AllocError> {
+        let bytes = (number.cast_unsigned() % 0x1_0000_0000).to_le_bytes();
+        for (byte, _) in bytes.iter().zip(0..size) {
+            self.put_byte(*byte)?;
+        }
+        self.layout.advance(size);
+        Ok(())
+    }
+
+    // A size of at most eight bytes, and a value: one and zero where they are left out.
+    fn filling(&mut self, operands: &[Operand<'a>]) -> Result<(u64, i64), Stop> {
+        let size = match operands {
+            [size, ..] => self.early_number(size)?,
+            [] => 1,
+        };
+        let value = match operands {
+            [_, value, ..] => self.early_number(value)?,
+            _ => 0,
+        };
+        match operands {
+            [size_operand, ..] if size < 0 || size > 8 => {
+                Err(Stop::Wrong(Wrong::Range(0, 8), size_operand.column))
+            }
+            _ => Ok((size.cast_unsigned(), value)),
+        }
+    }
+
+    /// .fill count, size, value
+    pub(crate) fn fill(&mut self, call: &Call<'_, 'a>) -> Result<(), Stop> {
+        let [count, filling @ ..] = call.operands else {
+            return Err(call.misused(FILL));
+        };
+        if filling.len() > 2 {
+            return Err(call.misused(FILL));
+        }
+        let count = self.count(count)?;
+        let (size, value) = self.filling(filling)?;
+        for _ in 0..count {
+            self.put_part(value, size)?;
+        }
+        Ok(())
+    }
+
     // That many times a byte.
     fn put_bytes(&mut self, count: u64, byte: u8) -> Result<(), AllocError> {
         self.layout.advance(count);
@@ -214,9 +285,13 @@ impl<'a> Assembler<'a> {
         Ok(())
     }
 
-    // Up to a multiple of four by zeros, then by instructions that do nothing.
+    // As `as` does: a zero up to an even address, then instructions that do nothing, the first of two bytes.
     fn put_nops(&mut self, count: u64) -> Result<(), AllocError> {
-        self.put_bytes(count % 4, 0)?;
+        self.put_bytes(count % 2, 0)?;
+        if count % 4 >= 2 {
+            self.layout.advance(2);
+            self.put_two(1)?;
+        }
         for _ in 0..count / 4 {
             self.layout.advance(4);
             self.output.put(b"    addi zero, zero, 0\n")?;

@@ -4,7 +4,8 @@ use crate::assembler::Assembler;
 use crate::data::Width;
 use crate::fault::{Position, Stop, Usage, Wrong};
 use crate::names::Symbol;
-use crate::operands::Call;
+use crate::operands::{Call, Operand};
+use crate::tokens::Kind;
 use crate::value::{Section, Value};
 use crate::words::{add_instructions, add_names};
 use std::alloc::{AllocError, Global};
@@ -19,6 +20,8 @@ pub enum Directive {
     /// Strings, with a zero after each or not.
     Texts(bool),
     Space,
+    /// .fill count, size, value
+    Fill,
     /// Up to a power of two, or up to a multiple.
     Align(bool),
     /// .equ name, value
@@ -46,13 +49,15 @@ const SECTIONS: [(&str, Directive); 5] = [
     (".section", Directive::Section),
 ];
 
-const DATA: [(&str, Directive); 16] = [
+const DATA: [(&str, Directive); 18] = [
     (".byte", Directive::Data(Width::One)),
     (".half", Directive::Data(Width::Two)),
     (".short", Directive::Data(Width::Two)),
+    (".hword", Directive::Data(Width::Two)),
     (".2byte", Directive::Data(Width::Two)),
     (".word", Directive::Data(Width::Four)),
     (".long", Directive::Data(Width::Four)),
+    (".int", Directive::Data(Width::Four)),
     (".4byte", Directive::Data(Width::Four)),
     (".dword", Directive::Data(Width::Eight)),
     (".quad", Directive::Data(Width::Eight)),
@@ -65,12 +70,15 @@ const DATA: [(&str, Directive); 16] = [
     (".zero", Directive::Space),
 ];
 
-const OTHERS: [(&str, Directive); 10] = [
+const OTHERS: [(&str, Directive); 13] = [
     (".align", Directive::Align(true)),
     (".p2align", Directive::Align(true)),
     (".balign", Directive::Align(false)),
     (".equ", Directive::Equate),
     (".set", Directive::Equate),
+    (".eqv", Directive::Equate),
+    (".equiv", Directive::Equate),
+    (".fill", Directive::Fill),
     (".globl", Directive::Export),
     (".global", Directive::Export),
     (".weak", Directive::Export),
@@ -78,7 +86,8 @@ const OTHERS: [(&str, Directive); 10] = [
     (".lcomm", Directive::Common),
 ];
 
-const PASSED: [&str; 11] = [
+const PASSED: [&str; 12] = [
+    ".extern",
     ".local",
     ".hidden",
     ".type",
@@ -129,7 +138,7 @@ fn among(table: &[(&'static str, Directive)], name: &[u8]) -> Option<Named> {
 
 fn passed(name: &[u8]) -> Option<Named> {
     for other in &PASSED {
-        if other.as_bytes() == name {
+        if other.as_bytes().eq_ignore_ascii_case(name) {
             return Some(Named {
                 name: other,
                 directive: Directive::Passed,
@@ -222,6 +231,18 @@ fn section_called(name: &[u8]) -> Option<Section> {
     None
 }
 
+// The name of a section: a word, a string, or .note.GNU-stack and the like, which have a sign in them.
+fn section_name<'a>(operand: &Operand<'a>) -> Option<&'a [u8]> {
+    let [first, rest @ ..] = operand.tokens else {
+        return None;
+    };
+    match first.kind {
+        Kind::Name(name) if rest.is_empty() || name.starts_with(b".note") => Some(name),
+        Kind::Text(name) if rest.is_empty() => Some(name),
+        _ => None,
+    }
+}
+
 impl<'a> Assembler<'a> {
     fn go_to(&mut self, section: Section) {
         self.layout.section = section;
@@ -233,7 +254,7 @@ impl<'a> Assembler<'a> {
         let [operand, ..] = call.operands else {
             return Err(call.misused(SECTION));
         };
-        let Some(name) = operand.name() else {
+        let Some(name) = section_name(operand) else {
             return Err(call.misused(SECTION));
         };
         match section_called(name) {
@@ -341,6 +362,7 @@ impl<'a> Assembler<'a> {
             Directive::Data(width) => self.data(width, call)?,
             Directive::Texts(is_ended) => self.texts(is_ended, call)?,
             Directive::Space => self.space(call)?,
+            Directive::Fill => self.fill(call)?,
             Directive::Align(is_power) => self.align(is_power, call)?,
             Directive::Equate => self.equate(call)?,
             Directive::Common => self.common(call)?,

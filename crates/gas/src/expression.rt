@@ -7,6 +7,16 @@ use crate::tokens::{Kind, Mark, Token, Way};
 use crate::value::{UNKNOWN, Value, binary, number, unary};
 use std::alloc::Global;
 
+// What compilers add to the name of a function of a shared library.
+const SUFFIX: &[u8] = b"@plt";
+
+fn without_suffix(name: &[u8]) -> &[u8] {
+    match name.strip_suffix(SUFFIX) {
+        Some(front) => front,
+        None => name,
+    }
+}
+
 /// What names mean at a statement.
 #[derive(Clone, Copy)]
 pub struct Scope<'s, 'a> {
@@ -44,7 +54,7 @@ impl Scope<'_, '_> {
         if matches!(name, [b'.']) {
             return Ok(self.here);
         }
-        match self.names.symbol(name) {
+        match self.names.symbol(without_suffix(name)) {
             Some(symbol) => self.known(Some(symbol.value), symbol.at.row),
             None => self.known(None, 0),
         }

@@ -1,6 +1,6 @@
 //! Macros: their parameters, and their text with arguments in place of these.
 
-use crate::blanks::length_before;
+use crate::blanks::argument_length;
 use crate::source::Place;
 use itoa::Buffer;
 use std::alloc::{AllocError, Global};
@@ -51,21 +51,22 @@ pub(crate) fn unquoted(text: &[u8]) -> &[u8] {
     }
 }
 
-/// What lies between the commas of a text.
+/// The arguments that a text lists: commas are between them, or blanks between two words.
 pub(crate) fn arguments<'t>(alloc: Global, text: &'t [u8]) -> Result<Vec<&'t [u8]>, AllocError> {
     let mut arguments = Vec::new(alloc);
-    let mut rest = text;
-    if rest.trim_ascii().is_empty() {
+    let mut rest = text.trim_ascii();
+    if rest.is_empty() {
         return Ok(arguments);
     }
     for _ in 0..text.len() {
-        let length = length_before(rest, b',');
+        let length = argument_length(rest);
         let (argument, more) = rest.split_at(length.min(rest.len()));
         arguments.push(unquoted(argument.trim_ascii()))?;
-        match more {
-            [b',', more @ ..] => rest = more,
-            _ => break,
-        }
+        rest = match more.trim_ascii_start() {
+            [] => break,
+            [b',', more @ ..] => more.trim_ascii_start(),
+            more => more,
+        };
     }
     Ok(arguments)
 }

@@ -93,6 +93,24 @@ impl<'a> Operand<'a> {
         }
     }
 
+    /// The two names, or numeric labels, of which the operand is the difference.
+    pub(crate) fn difference(&self) -> Option<(Operand<'a>, Operand<'a>)> {
+        match self.tokens {
+            [one, minus, other] if minus.is(Mark::Minus) => {
+                let first = Operand {
+                    tokens: self.tokens.get(..1)?,
+                    column: one.column,
+                };
+                let last = Operand {
+                    tokens: self.tokens.get(2..)?,
+                    column: other.column,
+                };
+                Some((first, last))
+            }
+            _ => None,
+        }
+    }
+
     /// The name that the operand is.
     pub(crate) fn name(&self) -> Option<&'a [u8]> {
         match self.tokens {

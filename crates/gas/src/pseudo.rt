@@ -227,12 +227,15 @@ impl<'a> Assembler<'a> {
         self.load_number(rd, number)
     }
 
-    /// la rd, label
+    /// la rd, label, and la rd, n as li
     pub(crate) fn load_address(&mut self, call: &Call<'_, 'a>) -> Result<(), Stop> {
         let [rd, label] = call.operands else {
             return Err(call.misused(ADDRESS));
         };
         let rd = rd.register()?;
+        if let Ok(number) = self.early_number(label) {
+            return self.load_number(rd, number);
+        }
         let low = self.towards(rd, label)?;
         self.write_number("addi", rd, rd, low)
     }

@@ -19,7 +19,6 @@ fn escaped(c: u8) -> Option<u8> {
         b'r' => Some(b'\r'),
         b'b' => Some(8),
         b'f' => Some(12),
-        b'a' => Some(7),
         b'v' => Some(11),
         b'\\' | b'"' | b'\'' => Some(c),
         _ => None,

@@ -95,7 +95,15 @@ fn labels_are_found(rt: HostRuntime) -> Result<(), AllocError> {
     expect_texts(&rt, &LABELS)
 }
 
-const MACROS: [(&str, &str); 6] = [
+const MACROS: [(&str, &str); 8] = [
+    (
+        ".macro l r n=7, m\nli \\r, \\n\n.endm\nl a0\nl a0 1\nl t0, 2 3\nl a1 n=4 + 5",
+        "    addi a0, zero, 7\n    addi a0, zero, 1\n    addi t0, zero, 2\n    addi a1, zero, 9\n",
+    ),
+    (
+        ".macro p a b\n.data\n.ascii \"\\a\", \"\\b\"\n.endm\np \"x y\" \"z\"\np 'a' 'b'",
+        "    .ascii \"x y\"\n    .ascii \"z\"\n    .ascii \"'a'\"\n    .ascii \"'b'\"\n",
+    ),
     (
         ".include \"lib.s\"\ntwice li; nop",
         "    addi a0, zero, 1\n    addi a0, zero, 2\n    addi zero, zero, 0\n",
@@ -110,7 +118,7 @@ const MACROS: [(&str, &str); 6] = [
     ),
     (
         ".macro p text\n.asciz \"\\text\"\n.endm\np \"a, b\"",
-        "    .ascii \"a, b\\0\"\n    .zero 3\n",
+        "    .ascii \"a, b\\0\"\n    .zero 1\n    .byte 1\n    .byte 0\n",
     ),
     (
         ".rept 2\n1: j 1b\n.endr",
@@ -118,7 +126,7 @@ const MACROS: [(&str, &str); 6] = [
     ),
     (
         ".macro two\n.rept 2\n.byte 7\n.endr\n.endm\ntwo",
-        "    .byte 7\n    .byte 7\n    .zero 2\n",
+        "    .byte 7\n    .byte 7\n    .byte 1\n    .byte 0\n",
     ),
 ];
 
@@ -127,7 +135,27 @@ fn macros_are_called(rt: HostRuntime) -> Result<(), AllocError> {
     expect_texts(&rt, &MACROS)
 }
 
-const NAMES: [(&str, &str); 2] = [
+const NAMES: [(&str, &str); 7] = [
+    (
+        ".eqv n, 1\n.equiv m, n + 1\nla a0, m\n.int m\n.hword n",
+        "    addi a0, zero, 2\n    .word 2\n    .byte 1\n    .byte 0\n    .byte 1\n    .byte 0\n",
+    ),
+    (
+        ".section \".rodata\"\nt: .word f - t\n.text\nnop\nf: nop\n.section .note.GNU-stack,\"\",@progbits",
+        "    addi zero, zero, 0\nf:\n    addi zero, zero, 0\nt:\n    .word -4\n",
+    ),
+    (
+        ".extern f\nf: call f@plt\n.END",
+        "f:\n    auipc ra, 0\n    jalr ra, 0(ra)\n",
+    ),
+    (
+        ".data\n.fill 2\n.fill 1, 2, 0x1234\n.fill 0, 4, 1",
+        "    .byte 0\n    .byte 0\n    .byte 52\n    .byte 18\n",
+    ),
+    (
+        ".data\n.fill 1, 6, -1",
+        "    .byte 255\n    .byte 255\n    .byte 255\n    .byte 255\n    .byte 0\n    .byte 0\n",
+    ),
     (
         ".set n, 1\nli a0, n\n.set n, n + 1\nli a0, n",
         "    addi a0, zero, 1\n    addi a0, zero, 2\n",

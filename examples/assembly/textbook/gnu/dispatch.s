@@ -7,6 +7,14 @@
         .equ    HALT, 5
 
         .section .rodata
+        .p2align 2
+handlers:
+        .word   op_push - handlers
+        .word   op_add - handlers
+        .word   op_mul - handlers
+        .word   op_dup - handlers
+        .word   op_print - handlers
+        .word   op_halt - handlers
 program:
         .byte   PUSH, 6, PUSH, 7, MUL, PRINT            # 6 * 7
         .byte   PUSH, 3, DUP, MUL, PUSH, 4, DUP, MUL, ADD, PRINT
@@ -69,15 +77,6 @@ op_halt:
         li      a0, 0
         li      a7, 2
         ecall
-
-        .p2align 2
-handlers:
-        .word   op_push - handlers
-        .word   op_add - handlers
-        .word   op_mul - handlers
-        .word   op_dup - handlers
-        .word   op_print - handlers
-        .word   op_halt - handlers
 
         .section .data
 buffer: .skip   20

@@ -108,7 +108,7 @@ putnumber:					# (number, base)
 	sd	t0, 8(sp)
 	divu	a0, a0, a1
 	beqz	a0, 1f
-	call	putnumber
+	call	putnumber@plt
 1:	ld	t0, 8(sp)
 	lla	t1, digits
 	add	t0, t0, t1
@@ -140,3 +140,4 @@ first:	.string	"%d is %s %x%c\n"
 second:	.string	"100%% of %d, up to %d\n"
 word:	.string	"the answer,"
 	.ident	"by hand"
+	.section	.note.GNU-stack,"",@progbits

@@ -23,7 +23,7 @@
         .endm
 
 # A loop: its name, how often, and the register that counts.
-        .macro  times name, count, reg=t0
+        .macro  times name count reg=t0
         li      \reg, \count
 again_\name:
         .endm
@@ -42,7 +42,7 @@ again_\name:
         .endm
 
 # The lesser of two registers; each call has a label of its own.
-        .macro  least reg, other
+        .macro  least reg other
         ble     \reg, \other, least\@
         mv      \reg, \other
 least\@:
@@ -58,12 +58,12 @@ _start:
         times   pushing, 5, s1          # pushes 5 to 1, but no more than 4
         mv      t1, s1
         li      t2, 4
-        least   t1, t2
+        least   t1 t2
         push    t1
         next    pushing, s1
 
         la      s0, digit
-        times   popping, 5, reg=s1
+        times   popping 5 reg=s1
         pop     t1
         addi    t1, t1, '0'
         least   t1, t1

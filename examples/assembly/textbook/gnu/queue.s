@@ -4,7 +4,7 @@
 
         .section .bss
         .balign 4
-ring:   .space  4 * SIZE
+ring:   .fill   SIZE, 4
 head:   .space  4
 tail_:  .space  4
 

@@ -47,6 +47,6 @@ L3:     lb   x6, 0(x5)
         addi x10, x10, -1
         jalr x0, 0(x1)
 
-        .data
+# The data follow the instructions.
 y:      .string "Copied, byte for byte.\n"
-x:      .zero 64
+x:      .zero 61

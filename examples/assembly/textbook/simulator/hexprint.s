@@ -1,6 +1,6 @@
 # Prints words in hexadecimal, by shifts, and in binary, by a mask.
 	.data
-numbers: .word 0xDEADBEEF, 0x00C0FFEE, 255, -1
+numbers: .int 0xDEADBEEF, 0x00C0FFEE, 255, -1
 count:	.word 4
 digits:	.ascii "0123456789ABCDEF"
 line:	.space 11			# 0x, eight digits and the line's end

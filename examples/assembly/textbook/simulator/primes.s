@@ -1,12 +1,15 @@
 # The sieve of Eratosthenes: prints the primes below 100.
+        .eqv LIMIT, 100
+        .extern errno 4
+
         .data
-sieve:  .space 100
+sieve:  .space LIMIT
 space:  .byte ' '
 line:   .byte '\n'
 
         .text
 main:   la   s0, sieve
-        li   s1, 100
+        li   s1, LIMIT
         li   s2, 2              # the number
 sieve_loop:
         bge  s2, s1, finished
