@@ -191,13 +191,18 @@ impl<'a> Assembler<'a> {
         Ok(())
     }
 
+    // Goes on by that many bytes, and returns whether they are written: not where the program is too long anyway.
+    fn reserve(&mut self, count: u64) -> bool {
+        self.layout.advance(count);
+        self.layout.offset() <= LIMIT.cast_unsigned()
+    }
+
     // The first bytes of a number of four, and zeros after them.
     fn put_part(&mut self, number: i64, size: u64) -> Result<(), AllocError> {
         let bytes = (number.cast_unsigned() % 0x1_0000_0000).to_le_bytes();
         for (byte, _) in bytes.iter().zip(0..size) {
             self.put_byte(*byte)?;
         }
-        self.layout.advance(size);
         Ok(())
     }
 
@@ -229,16 +234,20 @@ impl<'a> Assembler<'a> {
         }
         let count = self.count(count)?;
         let (size, value) = self.filling(filling)?;
-        for _ in 0..count {
-            self.put_part(value, size)?;
+        let total = count.saturating_mul(size);
+        if value == 0 {
+            self.put_bytes(total, 0)?;
+        } else if self.reserve(total) {
+            for _ in 0..count {
+                self.put_part(value, size)?;
+            }
         }
         Ok(())
     }
 
     // That many times a byte.
     fn put_bytes(&mut self, count: u64, byte: u8) -> Result<(), AllocError> {
-        self.layout.advance(count);
-        if count == 0 {
+        if !self.reserve(count) || count == 0 {
             return Ok(());
         }
         if byte == 0 {
@@ -287,13 +296,16 @@ impl<'a> Assembler<'a> {
 
     // As `as` does: a zero up to an even address, then instructions that do nothing, the first of two bytes.
     fn put_nops(&mut self, count: u64) -> Result<(), AllocError> {
-        self.put_bytes(count % 2, 0)?;
+        if !self.reserve(count) {
+            return Ok(());
+        }
+        if count % 2 == 1 {
+            self.output.counted(".zero", 1)?;
+        }
         if count % 4 >= 2 {
-            self.layout.advance(2);
             self.put_two(1)?;
         }
         for _ in 0..count / 4 {
-            self.layout.advance(4);
             self.output.put(b"    addi zero, zero, 0\n")?;
         }
         Ok(())

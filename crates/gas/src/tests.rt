@@ -150,7 +150,7 @@ const NAMES: [(&str, &str); 7] = [
     ),
     (
         ".data\n.fill 2\n.fill 1, 2, 0x1234\n.fill 0, 4, 1",
-        "    .byte 0\n    .byte 0\n    .byte 52\n    .byte 18\n",
+        "    .zero 2\n    .byte 52\n    .byte 18\n",
     ),
     (
         ".data\n.fill 1, 6, -1",
