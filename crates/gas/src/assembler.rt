@@ -89,7 +89,13 @@ impl<'a> Assembler<'a> {
     }
 
     /// A number, if it lies from the one to the other.
-    pub(crate) fn within(&self, number: i64, low: i64, high: i64, column: usize) -> Result<i64, Stop> {
+    pub(crate) fn within(
+        &self,
+        number: i64,
+        low: i64,
+        high: i64,
+        column: usize,
+    ) -> Result<i64, Stop> {
         if self.is_last && (number < low || number > high) {
             return Err(Stop::Wrong(Wrong::Range(low, high), column));
         }

@@ -267,7 +267,12 @@ impl<'a> Assembler<'a> {
     }
 
     /// Notes what a name stands for; it is a fault if an earlier statement says so, and one of them is a label.
-    pub(crate) fn define(&mut self, name: &'a [u8], symbol: Symbol, column: usize) -> Result<(), Stop> {
+    pub(crate) fn define(
+        &mut self,
+        name: &'a [u8],
+        symbol: Symbol,
+        column: usize,
+    ) -> Result<(), Stop> {
         if let Some(first) = self.names.own(name) {
             let is_label = first.is_label || symbol.is_label;
             if is_label && first.at.row != symbol.at.row {
@@ -355,7 +360,11 @@ impl<'a> Assembler<'a> {
     }
 
     /// A directive with its operands.
-    pub(crate) fn directive(&mut self, directive: Directive, call: &Call<'_, 'a>) -> Result<(), Stop> {
+    pub(crate) fn directive(
+        &mut self,
+        directive: Directive,
+        call: &Call<'_, 'a>,
+    ) -> Result<(), Stop> {
         match directive {
             Directive::Go(section) => self.go_to(section),
             Directive::Section => self.section(call)?,

@@ -196,7 +196,10 @@ fn pseudo_called(word: &[u8]) -> Option<Word> {
 }
 
 /// Adds names.
-pub(crate) fn add_names<'w>(words: &mut Vec<&'w str>, names: &[&'static str]) -> Result<(), AllocError> {
+pub(crate) fn add_names<'w>(
+    words: &mut Vec<&'w str>,
+    names: &[&'static str],
+) -> Result<(), AllocError> {
     for name in names {
         words.push(*name)?;
     }
