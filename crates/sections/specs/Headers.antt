@@ -65,3 +65,8 @@ abbrev pub section_named : List ℕ → List ℕ → List Section → Option Sec
 section_named names name [] = None
 section_named names name (section ∷ sections) =
     if bytes_eq (text_at names section.name) name then Some section else section_named names name sections
+
+-- the first section of a type
+abbrev pub section_of_kind : ℕ → List Section → Option Section
+section_of_kind kind [] = None
+section_of_kind kind (section ∷ sections) = if section.kind == kind then Some section else section_of_kind kind sections

@@ -1,10 +1,10 @@
 //! The sections of a file.
 
-ghost use Rattle.std.specs.Prelude.{◌≡◌, IfOk, map};
+ghost use Rattle.std.specs.Prelude.{◌≡◌, IfOk, Some, map};
 ghost use Rattle.std.specs.List.{slice_get};
 ghost use Rattle.sections.specs.Made.{IsOf};
 ghost use Rattle.sections.specs.Headers.{contents_of, has_sections, names_of, pieces, section_in};
-ghost use Rattle.sections.specs.Headers.{section_named, sections_of};
+ghost use Rattle.sections.specs.Headers.{section_named, section_of_kind, sections_of};
 
 use crate::parts::{from, part, text_at};
 use crate::section::{SECTION_HEADER_SIZE, Section, section_in};
@@ -117,6 +117,25 @@ impl<'a> Sections<'a> {
             Some(section) => contents(self.file, section),
             None => &[],
         }
+    }
+
+    /// The first section of a type.
+    pub fn of_kind(&self, kind: u32) -> Option<Section>
+        ensures { result ≡ section_of_kind kind self.now.list.items }
+    {
+        for section in &self.list {
+            if section.kind == kind {
+                return Some(*section);
+            }
+        }
+        None
+    }
+
+    /// The bytes of a section.
+    pub fn bytes(&self, section: &Section) -> &'a [u8]
+        ensures { result.now ≡ contents_of self.now.file.now (Some section.now) }
+    {
+        contents(self.file, section)
     }
 
     /// The bytes of the first section of a name; none where there is none.

@@ -1,7 +1,7 @@
 //! One entry of a symbol table.
 
 ghost use Rattle.std.specs.Prelude.{◌≡◌};
-ghost use Rattle.symbols.specs.Entries.{has_address, symbol_in};
+ghost use Rattle.symbols.specs.Entries.{has_address, symbol_in, type_in};
 
 use byteorder::{ByteOrder, LittleEndian};
 
@@ -21,17 +21,6 @@ pub struct Symbol {
     pub size: u64,
 }
 
-/// What a symbol names (`ELF64_ST_TYPE`).
-#[derive(Clone, Copy, Debug, PartialEq, Eq)]
-pub enum Kind {
-    /// `STT_FUNC`: a function.
-    Function,
-    /// `STT_NOTYPE`: a label.
-    Label,
-    /// Any other type.
-    Other,
-}
-
 /// The symbol that an entry declares.
 pub(crate) fn symbol_in(entry: &[u8; ENTRY_SIZE]) -> Symbol
     ensures { result ≡ symbol_in entry.now }
@@ -44,13 +33,11 @@ pub(crate) fn symbol_in(entry: &[u8; ENTRY_SIZE]) -> Symbol
     }
 }
 
-/// What it names.
-pub(crate) fn kind_in(entry: &[u8; ENTRY_SIZE]) -> Kind {
-    match entry[4] % 16 {
-        0 => Kind::Label,
-        2 => Kind::Function,
-        _ => Kind::Other,
-    }
+/// Its type (`ELF64_ST_TYPE`).
+pub(crate) fn type_in(entry: &[u8; ENTRY_SIZE]) -> u8
+    ensures { result ≡ type_in entry.now }
+{
+    entry[4] % 16
 }
 
 impl Symbol {

@@ -7,5 +7,5 @@ mod entry;
 mod nearest;
 mod table;
 
-pub use entry::{ENTRY_SIZE, Kind, Symbol};
+pub use entry::{ENTRY_SIZE, Symbol};
 pub use table::{Place, Symbols};

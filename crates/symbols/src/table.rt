@@ -1,15 +1,23 @@
 //! The functions and labels of a file.
 
-ghost use Rattle.std.specs.Prelude.{◌≤◌, IfSome};
+ghost use Rattle.std.specs.Prelude.{◌≡◌, ◌≤◌, ◌++◌, IfOk, IfSome, OnOk, flat_map, slice_get};
+ghost use Rattle.std.specs.List.Sorted.{IsPermutation};
+ghost use Rattle.symbols.specs.Entries.{entries_of, function_in, is_code, is_named, is_own, label_in};
+ghost use Rattle.symbols.specs.Tables.{AreOf};
 ghost use Rattle.symbols.specs.Places.{IsAt, IsPlace};
 
-use crate::entry::{ENTRY_SIZE, Kind, Symbol, kind_in, symbol_in};
+use crate::entry::{ENTRY_SIZE, Symbol, symbol_in, type_in};
 use crate::nearest::Ordered;
 use sections::{Section, Sections, text_at};
 use std::alloc::{AllocError, Global};
 
 // `SHT_SYMTAB`: a section that is a symbol table.
 const SYMBOL_TABLE: u32 = 2;
+
+// `STT_NOTYPE` and `STT_FUNC`: the types of labels and functions.
+const LABEL: u8 = 0;
+
+const FUNCTION: u8 = 2;
 
 // `SHF_EXECINSTR`, of a section's flags: its bytes are instructions.
 const EXECUTABLE: u64 = 4;
@@ -29,93 +37,142 @@ pub struct Place<'a> {
     pub offset: u64,
 }
 
-// The symbols of each kind that were found so far.
-#[derive(Drop)]
-struct Found {
-    functions: Vec<Symbol>,
-    labels: Vec<Symbol>,
-}
-
 // Whether a name is one of an assembler's or compiler's own: `.L12`, `$x`.
-fn is_local(name: &[u8]) -> bool {
-    matches!(name, [] | [b'.', b'L', ..] | [b'$', ..])
+fn is_own(name: &[u8]) -> bool
+    ensures { result ≡ is_own name.now }
+{
+    match name {
+        [] => true,
+        [b'$', ..] => true,
+        [b'.', b'L', ..] => true,
+        _ => false,
+    }
 }
 
-fn is_executable(section: Option<&Section>) -> bool {
-    match section {
+// Whether the section of an index has instructions.
+fn is_code(sections: &[Section], index: u16) -> bool
+    ensures { result ≡ is_code (slice_get sections.now index) }
+{
+    match sections.get(usize::from(index)) {
         Some(section) => section.flags / EXECUTABLE % 2 == 1,
         None => false,
     }
 }
 
-impl Found {
-    // Adds an entry that names code.
-    fn push(
-        &mut self,
-        entry: &[u8; ENTRY_SIZE],
-        sections: &[Section],
-        names: &[u8],
-    ) -> Result<(), AllocError> {
-        let symbol = symbol_in(entry);
-        if symbol.section == 0 || is_local(text_at(names, u64::from(symbol.name))) {
-            return Ok(());
-        }
-        match kind_in(entry) {
-            Kind::Function => self.functions.push(symbol)?,
-            Kind::Label if is_executable(sections.get(usize::from(symbol.section))) => self
-                .labels
-                .push(symbol)?,
-            Kind::Label | Kind::Other => {}
-        }
-        Ok(())
-    }
+// Whether an entry is of a section, and has a name that a program's author gave.
+fn is_named(names: &[u8], entry: &[u8; ENTRY_SIZE]) -> bool
+    ensures { result ≡ is_named names.now entry.now }
+{
+    let symbol = symbol_in(entry);
+    symbol.section != 0 && !is_own(text_at(names, u64::from(symbol.name)))
 }
 
-// The index of the symbol table, and that of the table of its names.
-fn tables(sections: &[Section]) -> Option<(usize, usize)> {
-    for (index, section) in sections.iter().enumerate() {
-        if section.kind == SYMBOL_TABLE {
-            return Some((index, section.link as usize));
-        }
-    }
-    None
-}
-
-// The symbols of a table that name code.
-fn named_in(
-    alloc: Global,
-    sections: &[Section],
-    table: &[u8],
+// Adds the function that an entry declares, if it does.
+fn push_function(
+    functions: &mut Vec<Symbol>,
     names: &[u8],
-) -> Result<Found, AllocError> {
-    let mut found = Found {
-        functions: Vec::new(alloc),
-        labels: Vec::new(alloc),
-    };
+    entry: &[u8; ENTRY_SIZE],
+) -> Result<(), AllocError>
+    ensures { OnOk result (functions.new.items ≡ functions.old.items ++ function_in names.now entry.now) }
+{
+    if type_in(entry) == FUNCTION && is_named(names, entry) {
+        functions.push(symbol_in(entry))?;
+    }
+    Ok(())
+}
+
+// Adds the label that an entry declares, if it does.
+fn push_label(
+    labels: &mut Vec<Symbol>,
+    sections: &[Section],
+    names: &[u8],
+    entry: &[u8; ENTRY_SIZE],
+) -> Result<(), AllocError>
+    ensures { OnOk result (labels.new.items ≡ labels.old.items ++ label_in sections.now names.now entry.now) }
+{
+    if type_in(entry) == LABEL
+        && is_named(names, entry)
+        && is_code(sections, symbol_in(entry).section)
+    {
+        labels.push(symbol_in(entry))?;
+    }
+    Ok(())
+}
+
+// The functions of a table.
+fn functions_in(alloc: Global, names: &[u8], table: &[u8]) -> Result<Vec<Symbol>, AllocError>
+    ensures { IfOk result (λ functions. functions.items ≡ flat_map (function_in names.now) (entries_of table.now)) }
+{
+    let mut functions = Vec::new(alloc);
     let mut rest = table;
-    for _ in 0..table.len() / ENTRY_SIZE {
+    let count = table.len() / ENTRY_SIZE;
+    for _ in 0..count {
         let Some((entry, after)) = rest.split_first_chunk::<ENTRY_SIZE>() else {
-            return Ok(found);
+            return Ok(functions);
         };
-        found.push(entry, sections, names)?;
+        push_function(&mut functions, names, entry)?;
         rest = after;
     }
-    Ok(found)
+    Ok(functions)
+}
+
+// The labels of a table.
+fn labels_in(
+    alloc: Global,
+    sections: &[Section],
+    names: &[u8],
+    table: &[u8],
+) -> Result<Vec<Symbol>, AllocError>
+    ensures { IfOk result
+        (λ labels. labels.items ≡ flat_map (label_in sections.now names.now) (entries_of table.now)) }
+{
+    let mut labels = Vec::new(alloc);
+    let mut rest = table;
+    let count = table.len() / ENTRY_SIZE;
+    for _ in 0..count {
+        let Some((entry, after)) = rest.split_first_chunk::<ENTRY_SIZE>() else {
+            return Ok(labels);
+        };
+        push_label(&mut labels, sections, names, entry)?;
+        rest = after;
+    }
+    Ok(labels)
 }
 
 impl<'a> Symbols<'a> {
-    /// The functions and labels of a file; none where it has no symbol table.
-    pub fn of(alloc: Global, sections: &Sections<'a>) -> Result<Symbols<'a>, AllocError> {
-        let (table, names) = match tables(sections.as_slice()) {
-            Some((table, names)) => (sections.contents(table), sections.contents(names)),
-            None => (&[] as &[u8], &[] as &[u8]),
-        };
-        let found = named_in(alloc, sections.as_slice(), table, names)?;
+    // The functions and labels of a table, whose names are in another one.
+    fn of_tables(
+        alloc: Global,
+        sections: &[Section],
+        names: &'a [u8],
+        table: &[u8],
+    ) -> Result<Symbols<'a>, AllocError>
+        ensures names { IfOk result (λ symbols. symbols.names.now ≡ names.now) }
+        ensures functions { IfOk result (λ symbols. IsPermutation
+            (flat_map (function_in names.now) (entries_of table.now)) symbols.functions.symbols.items) }
+        ensures labels { IfOk result (λ symbols. IsPermutation
+            (flat_map (label_in sections.now names.now) (entries_of table.now)) symbols.labels.symbols.items) }
+    {
+        let functions = Ordered::of(functions_in(alloc, names, table)?)?;
+        let labels = Ordered::of(labels_in(alloc, sections, names, table)?)?;
         Ok(Symbols {
             names,
-            functions: Ordered::of(found.functions)?,
-            labels: Ordered::of(found.labels)?,
+            functions,
+            labels,
         })
+    }
+
+    /// The functions and labels of a file; none where it has no symbol table.
+    pub fn of(alloc: Global, sections: &Sections<'a>) -> Result<Symbols<'a>, AllocError>
+        ensures { IfOk result (AreOf sections.now) }
+    {
+        match sections.of_kind(SYMBOL_TABLE) {
+            Some(table) => {
+                let names = sections.contents(table.link as usize);
+                Symbols::of_tables(alloc, sections.as_slice(), names, sections.bytes(&table))
+            }
+            None => Symbols::of_tables(alloc, sections.as_slice(), &[], &[]),
+        }
     }
 
     // The function that has an address, or the nearest label at or below it, if no function begins between them.
