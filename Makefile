@@ -187,9 +187,13 @@ check-assembly: | program
 	trials/assembly.py $(PROGRAM)
 
 # Compares what `xv6 as` makes with the files of GNU as and ld: for random texts, exercises as textbooks have them, what gcc makes of C.
-.PHONY: check-as
+.PHONY: check-as check-names
 check-as: | program
 	trials/as.py $(PROGRAM)
+
+# Compares the names of `xv6 dump --names` with binutils' at each instruction of programs that gcc and clang compile.
+check-names: | program
+	trials/names.py $(PROGRAM)
 
 # Ends a thousand saves at random moments: the old file or the new one is there, whole.
 kills: | program
@@ -266,7 +270,7 @@ check-user-c: $(USER)
 check-picolibc: out/user/init out/user/sh
 	tools/check_picolibc.sh $(PROGRAM)
 
-check-course: check-user-c check-picolibc check-grader check-labs
+check-course: check-user-c check-picolibc check-names check-grader check-labs
 
 # Tries the grader of course/ over programs of user/ and its own, hostile ones among them: no compiler is needed.
 .PHONY: check-grader check-labs

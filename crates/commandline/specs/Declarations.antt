@@ -200,9 +200,9 @@ declared_as =
     (short_rule (codes "out") 111)) (flag_rule (codes "expand"))) (letter_rule (codes "verbose") 118)))
     (each_rule (codes "FILE"))
 
--- dump ELF
+-- dump [--names] ELF
 abbrev pub declared_dump : App
-declared_dump = with_bare (explained (new_app (codes "dump"))) (codes "ELF")
+declared_dump = with_bare (explained (with_rule (new_app (codes "dump")) (flag_rule (codes "names")))) (codes "ELF")
 
 -- a command has to be there
 abbrev pub declared_top : App
@@ -390,6 +390,7 @@ pub record IsAs (found : List Row) (as_job : As) : Type 0 where
   pub verbose : IsFlag (codes "verbose") found as_job.verbose
 
 pub record IsDump (found : List Row) (dump : Dump) : Type 0 where
+  pub names : IsFlag (codes "names") found dump.names
   pub elf : first_of (codes "ELF") found ≡ Some dump.elf.now
 
 pub record IsLive (found : List Row) (live : Live) : Type 0 where

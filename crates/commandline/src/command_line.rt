@@ -508,14 +508,15 @@ fn assemble<'a>(found: &ArgMatches<'a>) -> Option<Job<'a>>
     }))
 }
 
-// What the word after `dump` asks for.
+// What the words after `dump` ask for.
 fn dump<'a>(found: &ArgMatches<'a>) -> Option<Job<'a>>
     ensures { IfSome result (IsJob (Some (codes "dump", rows_of (found_of found.now)))) }
 {
+    let names = flag_found(found, "names");
     let Some(elf) = word_found(found, "ELF") else {
         return None;
     };
-    Some(Job::Dump(Dump { elf }))
+    Some(Job::Dump(Dump { names, elf }))
 }
 
 // What the words after `live` ask for.

@@ -479,7 +479,15 @@ const AS: [Word<'static>; 5] = [
     },
 ];
 
-const DUMP: [Word<'static>; 2] = [EXPLAIN, PROGRAM_FILE];
+const DUMP: [Word<'static>; 3] = [
+    Word {
+        name: "names",
+        given: Given::Flag,
+        help: "Names functions, labels and lines of texts, by the file's symbols and DWARF line numbers",
+    },
+    EXPLAIN,
+    PROGRAM_FILE,
+];
 
 const LIVE: [Word<'static>; 7] = [
     FRAMES,
@@ -647,7 +655,10 @@ wrong is printed at once, each fault as `hello.s:7:9: beqz takes a register and 
         example: "\
 Example, a line for each word, as `00000000: 000008b7 lui a7, 0x0`:
 
-xv6 dump start",
+xv6 dump start
+xv6 dump --names oops
+
+The second, of a program of `gcc -g`, has a line `sum+0x10 (oops.c:4):` where a line of its text begins.",
         words: &DUMP,
     },
 ];

@@ -241,9 +241,11 @@ pub struct As<'a> {
     pub verbose: bool,
 }
 
-/// The word of the command `dump`.
+/// The words of the command `dump`.
 #[derive(Clone, Copy, PartialEq, Eq)]
 pub struct Dump<'a> {
+    /// Whether addresses are named by the file's symbols and line numbers.
+    pub names: bool,
     /// The name of the program's file.
     pub elf: &'a str,
 }

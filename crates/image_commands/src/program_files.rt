@@ -1,5 +1,6 @@
 //! Assembles texts, and shows program files.
 
+use addresses::Names;
 use asm::assemble;
 use commandline::{Asm, Dump};
 use hosts::{Failure, Host, read, read_marked, write};
@@ -37,9 +38,16 @@ pub fn dump<'a, H: Host, W: Write>(
         Err(ProgramFault::Refused(fault)) => return Err(Failure::Program(fault)),
         Err(ProgramFault::NoMemory) => return Err(Failure::NoMemory),
     };
-    if write_program(file.as_slice(), segments.as_slice(), stdout).is_err()
-        || stdout.flush().is_err()
-    {
+    let names = if words.names {
+        let Ok(names) = Names::of(alloc, file.as_slice()) else {
+            return Err(Failure::NoMemory);
+        };
+        Some(names)
+    } else {
+        None
+    };
+    let written = write_program(file.as_slice(), segments.as_slice(), names.as_ref(), stdout);
+    if written.is_err() || stdout.flush().is_err() {
         return Err(Failure::Output);
     }
     Ok(())

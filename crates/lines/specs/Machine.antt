@@ -11,7 +11,7 @@ abbrev pub advanced_line : ℕ → ℤ → ℕ
 advanced_line line (pos n) = min (line + n) (2 ^ 64 - 1)
 advanced_line line (negsuc n) = line - suc n
 
--- an address so many bytes on
+-- an address that many bytes on
 abbrev pub on : ℕ → ℕ → ℕ
 on address bytes = (address + bytes) % 2 ^ 64
 

@@ -1,5 +1,6 @@
 //! The instructions of a program file.
 
+use addresses::{Line as TextLine, Name, Names};
 use elf::{ElfFault, HEADER_SIZE, LoadSegment, PROGRAM_HEADER_SIZE, header, segment};
 use isa::Word;
 use std::alloc::Global;
@@ -82,14 +83,54 @@ fn word_of(bytes: &[u8]) -> u32 {
     u32::from_le_bytes(word)
 }
 
+// What names the addresses of a segment, and the line of a text that was written last.
+#[derive(Drop)]
+struct Headings<'n, 'a> {
+    names: &'n Names<'a>,
+    last: Option<TextLine<'a>>,
+}
+
+impl<'a> Headings<'_, 'a> {
+    // What is written before an address: its name where a function or label begins, and where a line of a text does.
+    fn before(&mut self, address: u64) -> Option<Name<'a>> {
+        let name = self.names.at(address)?;
+        let begins = name.place.is_some_and(|place| place.offset == 0);
+        let is_other = name.line.is_some() && name.line != self.last;
+        self.last = name.line;
+        (begins || is_other).then_some(name)
+    }
+}
+
+// Writes the name of an address, if it is to have one here.
+fn write_heading<W: Write>(
+    headings: &mut Option<Headings<'_, '_>>,
+    address: u64,
+    out: &mut W,
+) -> io::Result<()> {
+    let Some(headings) = headings else {
+        return Ok(());
+    };
+    match headings.before(address) {
+        Some(name) => writeln!(out, "{name}:"),
+        None => Ok(()),
+    }
+}
+
 // Writes a line for each whole word that a segment has in its file.
-fn write_segment<W: Write>(file: &[u8], segment: &LoadSegment, out: &mut W) -> io::Result<()> {
+fn write_segment<W: Write>(
+    file: &[u8],
+    segment: &LoadSegment,
+    names: Option<&Names<'_>>,
+    out: &mut W,
+) -> io::Result<()> {
     let bytes = behind(file, segment.offset);
     let size = segment.file_size.min(bytes.len() as u64) as usize;
-    let mut address = (segment.address % 0x1_0000_0000) as u32;
+    let mut headings = names.map(|names| Headings { names, last: None });
+    let mut address = segment.address;
     for word in bytes[..size].chunks_exact(4) {
+        write_heading(&mut headings, address, out)?;
         let line = Line {
-            address,
+            address: (address % 0x1_0000_0000) as u32,
             word: word_of(word),
         };
         writeln!(out, "{line}")?;
@@ -99,15 +140,17 @@ fn write_segment<W: Write>(file: &[u8], segment: &LoadSegment, out: &mut W) -> i
 }
 
 /// Writes a line for each whole word of the segments that may be executed: its address, itself, and the instruction
-/// that it is.
+/// that it is. With names, the name of an address is on a line before it where a function, a label or a line of a text
+/// begins.
 pub fn write_program<W: Write>(
     file: &[u8],
     segments: &[LoadSegment],
+    names: Option<&Names<'_>>,
     out: &mut W,
 ) -> io::Result<()> {
     for segment in segments {
         if segment.executable {
-            write_segment(file, segment, out)?;
+            write_segment(file, segment, names, out)?;
         }
     }
     Ok(())

@@ -9,7 +9,10 @@ pub const ASM: Job<'static> = Job::Asm(Asm {
     elf: "image",
 });
 
-pub const DUMP: Job<'static> = Job::Dump(Dump { elf: "image" });
+pub const DUMP: Job<'static> = Job::Dump(Dump {
+    names: false,
+    elf: "image",
+});
 
 // The program's file of a text, with these bytes changed.
 pub fn with_program(rt: &(impl Abort + AllocGlobal), text: &str, changes: &[(usize, u8)]) -> Files {

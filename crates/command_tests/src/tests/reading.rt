@@ -129,7 +129,10 @@ fn expect_images(rt: &(impl Abort + AllocGlobal)) {
 fn expect_programs(rt: &(impl Abort + AllocGlobal)) {
     expect_asked(rt, &mkfs(32, 16), &[ALL, 32_769], "");
     expect_asked(rt, &mkfs(131_072, 15), &[ALL, FILE], "fault 6 Numbers\n");
-    let dump = Job::Dump(Dump { elf: "f" });
+    let dump = Job::Dump(Dump {
+        names: false,
+        elf: "f",
+    });
     expect_asked(rt, &dump, &[4], "fault 1 Magic\n");
     let flat = Job::Flat(Flat {
         frames: 1,

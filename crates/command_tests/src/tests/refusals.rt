@@ -24,7 +24,7 @@ fn job_of(tried: Tried) -> Job<'static> {
         Tried::Check(image) => Job::Check(Check { image }),
         Tried::Ls(image) => ls_job(image),
         Tried::Asm(text, elf) => Job::Asm(Asm { text, elf }),
-        Tried::Dump(elf) => Job::Dump(Dump { elf }),
+        Tried::Dump(elf) => Job::Dump(Dump { names: false, elf }),
     }
 }
 

@@ -380,7 +380,16 @@ fn expect_program_jobs(rt: &(impl Abort + AllocGlobal)) {
             elf: "b",
         }),
     );
-    expect_job(rt, "xv6 dump b", &Job::Dump(Dump { elf: "b" }));
+    let named = Dump {
+        names: true,
+        elf: "b",
+    };
+    expect_job(rt, "xv6 dump --names b", &Job::Dump(named));
+    let unnamed = Dump {
+        names: false,
+        elf: "b",
+    };
+    expect_job(rt, "xv6 dump b", &Job::Dump(unnamed));
 }
 
 fn expect_live_jobs(rt: &(impl Abort + AllocGlobal)) {
