@@ -29,6 +29,7 @@ pub fn file_at<D: BlockDev>(
     ensures file { IfOk result (λ found. IfSome found (IsFile tree.old.files)) }
     ensures same { OnOk result (tree.new.files ≡ tree.old.files) }
     ensures rests { OnOk result (IsAtRest tree.new) }
+    ensures device { tree.new.identity ≡ tree.old.identity }
 {
     let Some(number) = tree.resolve(ROOT, path)? else {
         return Ok(None);

@@ -26,6 +26,7 @@ fn make_missing<D: BlockDev>(tree: &mut Tree<D>, path: &[u8]) -> Result<(), Tree
     requires { IsAtRest tree.old }
     ensures begun { OnOk result (IsBegun tree.old.files path.now tree.new.files) }
     ensures rests { OnOk result (IsAtRest tree.new) }
+    ensures device { tree.new.identity ≡ tree.old.identity }
 {
     if file_at(tree, path, TreeFault::Exists)?.is_some() {
         return Ok(());
@@ -44,6 +45,7 @@ fn replace<D: BlockDev>(tree: &mut Tree<D>, number: usize, bytes: &[u8]) -> Resu
     requires file { IsFile tree.old.files number }
     ensures put { OnOk result (HasPut tree.old.files number bytes.now tree.new.files) }
     ensures rests { OnOk result (IsAtRest tree.new) }
+    ensures device { tree.new.identity ≡ tree.old.identity }
 {
     tree.truncate(number)?;
     match tree.write(number, 0, bytes)? {
@@ -57,6 +59,7 @@ fn put<D: BlockDev>(tree: &mut Tree<D>, path: &[u8], bytes: &[u8]) -> Result<(),
     requires { IsAtRest tree.old }
     ensures put { OnOk result (IsPutIn tree.old.files path.now bytes.now tree.new.files) }
     ensures rests { OnOk result (IsAtRest tree.new) }
+    ensures device { tree.new.identity ≡ tree.old.identity }
 {
     make_missing(tree, path)?;
     match file_at(tree, path, TreeFault::Exists)? {
@@ -74,7 +77,9 @@ pub fn write_file<D: BlockDev + Drop>(
     path: &[u8],
     bytes: &[u8],
 ) -> Result<D, OpeningFault>
-    ensures { IfOk result (λ left. IsPut (image_of (D.content disk)) path.now bytes.now (image_of (D.content left))) }
+    ensures put { IfOk result
+        (λ left. IsPut (image_of (D.content disk)) path.now bytes.now (image_of (D.content left))) }
+    ensures device { IfOk result (λ left. D.identity left ≡ D.identity disk) }
 {
     let mut tree = mount(alloc, disk)?;
     put(&mut tree, path, bytes)?;

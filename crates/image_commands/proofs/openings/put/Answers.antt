@@ -17,6 +17,6 @@ returns-in-Ok g c =
     c.in_ok-disk.ensures.blocks c.bytes.ensures.whole
     (subst (λ h. HoldsDisk words.image.now disk h) c.hold.ensures c.in_ok-disk.ensures.disk)
     (subst (λ h. HoldsFront words.file.now 67382273 front h) same c.in_ok-bytes.ensures.front)
-    (put-as _ _ _ _ _ _ c.as_bytes.ensures.value c.as_slice.ensures.value c.in-Ok.ensures)
+    (put-as _ _ _ _ _ _ c.as_bytes.ensures.value c.as_slice.ensures.value c.in-Ok.ensures.put)
     (writes-as _ _ _ _ _ _ c.bytes.ensures.bytes (c.in_ok-bytes.ensures.same ∙ same) writes))
     c.write.ensures

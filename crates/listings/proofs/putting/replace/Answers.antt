@@ -1,4 +1,4 @@
-use Rattle.std.proofs.Common.{◌≡◌, length, rules, tests}
+use Rattle.std.proofs.Common.{◌≡◌, ◌∙◌, length, rules, tests}
 use Rattle.listings.proofs.Replacing.{file-mid, puts}
 use Rattle.listings.proofs.putting.replace.Goals as goal
 
@@ -11,4 +11,8 @@ returns-in-Some g c =
     let told = c.in_ok-count.ensures.told in
     let both = puts c.requires.rests c.args.number c.requires.file c.in_ok-truncate.ensures.told c.args.bytes.now
     told.0 c.in_ok-count.field-0 told.1 c.in-Some.count c.in-Some.is whole in
-    record { put = both.0; rests = both.1 }
+    record {
+      put = both.0;
+      rests = both.1;
+      device = c.in_ok-count.ensures.same_device ∙ c.in_ok-truncate.ensures.same_device;
+    }
