@@ -1,7 +1,7 @@
 //! The word at a fault, and the word that was meant.
 
 use explanations::nearest;
-use gas::{Fault, Program, Row, Wrong, known_words};
+use gas::{Fault, Program, Row, Wrong, known_words, message};
 use std::alloc::{AllocError, Global};
 
 /// The longest word that another is looked for.
@@ -24,8 +24,8 @@ pub(crate) fn word_at(row: &Row, column: usize) -> &str {
     }
 }
 
-/// The word that was meant where no instruction or directive is called so.
-pub(crate) fn meant<'w>(
+// The word that was meant where no instruction or directive is called so.
+fn meant<'w>(
     alloc: Global,
     program: &Program,
     fault: &Fault,
@@ -41,4 +41,15 @@ pub(crate) fn meant<'w>(
         return Ok(None);
     }
     nearest(alloc, word, &known_words(alloc)?)
+}
+
+/// What is wrong, in words, and the word that was meant.
+pub fn words(alloc: Global, program: &Program, fault: &Fault) -> Result<String, AllocError> {
+    let mut words = message(alloc, program, fault.wrong)?;
+    if let Some(meant) = meant(alloc, program, fault)? {
+        words.push_str(": did you mean ")?;
+        words.push_str(meant)?;
+        words.push_str("?")?;
+    }
+    Ok(words)
 }

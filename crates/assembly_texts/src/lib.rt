@@ -4,7 +4,10 @@
 mod hints;
 mod making;
 mod reporting;
+mod sizes;
+mod telling;
 
 pub use gas::{File, MOST_BYTES, Program, Sources, read};
 pub use making::{Made, Unmade, make};
 pub use reporting::Reporter;
+pub use telling::{Told, tell};

@@ -12,6 +12,8 @@ use std::alloc::{AllocError, Global};
 pub struct Made {
     pub text: String,
     pub file: Vec<u8>,
+    /// The row of each line of the text, where it is of one.
+    pub rows: Vec<Option<usize>>,
     /// Where directives are that say nothing.
     pub passed: Vec<Position>,
 }
@@ -52,6 +54,7 @@ fn assembled(alloc: Global, expanded: Expanded) -> Result<Made, Unmade>
         Ok(file) => Ok(Made {
             text: expanded.text,
             file,
+            rows: expanded.rows,
             passed: expanded.passed,
         }),
         Err(fault) => Err(refused(&expanded, fault)),

@@ -1,9 +1,9 @@
 //! Reports: a line for each fault, and a picture of the row that it is in.
 
-use crate::hints::{meant, word_at};
+use crate::hints::{word_at, words};
 use crate::making::Unmade;
 use asm::AsmKind;
-use gas::{Fault, Place, Position, Program, Row, message};
+use gas::{Fault, Place, Position, Program, Row};
 use std::alloc::{AllocError, Global};
 use std::io::Write;
 
@@ -28,8 +28,8 @@ fn margin(alloc: Global, text: &[u8], length: usize) -> Result<String, AllocErro
     Ok(margin)
 }
 
-// What `asm` says of a line that a row is expanded to.
-fn words_of_kind(kind: AsmKind) -> &'static str {
+/// What `asm` says of a line that a row is expanded to.
+pub fn words_of_kind(kind: AsmKind) -> &'static str {
     match kind {
         AsmKind::Syntax => "asm can't read what this is expanded to",
         AsmKind::Mnemonic => "asm has no instruction that this is expanded to",
@@ -95,20 +95,9 @@ impl<'r, E: Write> Reporter<'r, E> {
         Ok(())
     }
 
-    // What is wrong, in words, and the word that was meant.
-    fn words(&self, fault: &Fault) -> Result<String, AllocError> {
-        let mut words = message(self.alloc, self.program, fault.wrong)?;
-        if let Some(meant) = meant(self.alloc, self.program, fault)? {
-            words.push_str(": did you mean ")?;
-            words.push_str(meant)?;
-            words.push_str("?")?;
-        }
-        Ok(words)
-    }
-
     fn faults(&mut self, faults: &[Fault]) -> Result<(), AllocError> {
         for fault in faults.iter().take(MOST) {
-            let words = self.words(fault)?;
+            let words = words(self.alloc, self.program, fault)?;
             self.fault(fault.at, words.as_str())?;
         }
         let more = faults.len().saturating_sub(MOST);
