@@ -1,0 +1,2 @@
+mod Disks
+mod Reading
