@@ -1,0 +1,4 @@
+pub mod Copied
+pub mod Faults
+pub mod Texts
+pub mod Images
