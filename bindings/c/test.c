@@ -320,6 +320,41 @@ static void watch(void)
     xv6_close(&probe);
 }
 
+/* From call to call, exit and fault, by one function: it is as many steps, and the same calls. */
+static void run_to(void)
+{
+    static const char line[] = "echo hi | cat\n";
+    struct xv6_machine machine = {NULL}, twin = {NULL};
+    struct xv6_reached reached;
+    uint32_t done, all = 0, calls = 0, exits = 0;
+    uint8_t bytes[16];
+    size_t i;
+    must(xv6_boot(image, length, FRAMES, &machine) == 0 && xv6_run(&machine, MANY, &done) == 0, "a machine that runs to something");
+    for (i = 0; line[i] != 0; i++) must(xv6_key(&machine, (uint8_t)line[i]) == 0, "a key of it");
+    must(xv6_copy(&machine, &twin) == 0 && xv6_run(&twin, MANY, &done) == 0, "its twin");
+    do {
+        must(xv6_run_to(&machine, XV6_TO_CALL | XV6_TO_FAULT | XV6_TO_EXIT, 0, MANY, &reached) == 0, "it runs to something");
+        must(reached.what != XV6_TO_FAULT && (reached.what != XV6_TO_EXIT || reached.status == 0), "nothing of it is a fault");
+        calls += reached.what == XV6_TO_CALL;
+        exits += reached.what == XV6_TO_EXIT;
+        all += reached.done;
+    } while (reached.what != 0);
+    must(all == done && are_alike(&machine, &twin), "it is as many steps");
+    must(calls > 10 && exits == 2, "with calls, and two exits");
+    for (i = 0; line[i] != 0; i++) must(xv6_key(&machine, (uint8_t)line[i]) == 0, "a key of it again");
+    must(xv6_run_to(&machine, XV6_TO_EXIT, 0, MANY, &reached) == 0 && reached.what == XV6_TO_EXIT && reached.pid > 2, "to an exit");
+    must(xv6_run_to(&machine, XV6_TO_CALL, 2, MANY, &reached) == 0 && reached.pid == 2 && reached.call != 0, "to a call of the shell");
+    must(xv6_run_to(&machine, XV6_TO_CALL, 0, 1, &reached) == 0 && reached.done == 1, "at most one step");
+    must(xv6_run_to(&machine, XV6_TO_FAULT, 0, MANY, &reached) == 0 && reached.what == 0, "no fault");
+    while (xv6_run_to_output(&machine, MANY, bytes, sizeof bytes, &done) != 0) all += done;
+    must(xv6_is_idle(&machine) == 1 && xv6_run_to_output(&machine, MANY, bytes, sizeof bytes, &done) == 0 && done == 0, "all output came");
+    must(xv6_key(&machine, 'x') == 0 && xv6_run_to_output(&machine, MANY, bytes, sizeof bytes, &done) == 1 && bytes[0] == 'x', "an echo");
+    must(xv6_run_to_output(&machine, MANY, NULL, 1, &done) == 0 && xv6_run_to_output(NULL, 1, bytes, 1, &done) == 0, "no place for output");
+    must(xv6_run_to(NULL, XV6_TO_CALL, 0, 1, &reached) == XV6_NULL && xv6_run_to(&machine, 1, 0, 1, NULL) == XV6_NULL, "nulls");
+    xv6_close(&machine);
+    xv6_close(&twin);
+}
+
 /* ---- arguments that are wrong */
 
 static struct xv6_machine up, closed, copied;
@@ -328,6 +363,7 @@ static struct xv6_stat stat_out;
 static struct xv6_descriptor named;
 static struct xv6_wait waits;
 static struct xv6_fault fault;
+static struct xv6_walk walked;
 static uint64_t digest;
 static uint8_t room[16];
 static size_t count;
@@ -379,6 +415,7 @@ static void refuse_handle(struct xv6_machine *machine)
     ROW(xv6_wait(machine, 1, &waits), XV6_NULL);
     ROW(xv6_directory(machine, 1), 0u);
     ROW(xv6_fault(machine, 1, &fault), XV6_NULL);
+    ROW(xv6_walk(machine, 1, 0, &walked), XV6_NULL);
     ROW(xv6_digest(machine, &digest), XV6_NULL);
     ROW(xv6_stat(machine, 1, &stat_out), XV6_NULL);
     ROW(xv6_read(machine, 1, 0, room, sizeof room, &count), XV6_NULL);
@@ -403,6 +440,7 @@ static void refuse_places(void)
     ROW(xv6_pipe(&up, 0, room, sizeof room, NULL), XV6_NULL);
     ROW(xv6_wait(&up, 1, NULL), XV6_NULL);
     ROW(xv6_fault(&up, 1, NULL), XV6_NULL);
+    ROW(xv6_walk(&up, 1, 0, NULL), XV6_NULL);
     ROW(xv6_digest(&up, NULL), XV6_NULL);
     ROW(xv6_console(&up, NULL, 1), 0u);
     ROW(xv6_console(&up, NULL, 0), 0u);
@@ -478,6 +516,7 @@ int main(int argc, char **argv)
     play_copies(1);
     copy_stopped();
     watch();
+    run_to();
     refuse();
     free(image);
     return wrong;

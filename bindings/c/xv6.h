@@ -27,7 +27,7 @@ extern "C" {
 
 /* The number of the interface, not of the release: the major number times 1000, and the minor one. A new function adds 1; one that
    changes, or a struct that does, adds 1000. */
-#define XV6_VERSION 1002
+#define XV6_VERSION 1003
 
 /* A machine. All of it is cleared before xv6_boot and xv6_copy, and after xv6_close. */
 struct xv6_machine {
@@ -77,6 +77,12 @@ struct xv6_stat {
     uint32_t kind;          /* XV6_NO_NODE .. XV6_DEVICE */
     uint32_t links;         /* how many names it has */
     uint32_t size;          /* in bytes */
+};
+
+/* The walk of an address through the page table of a process. */
+struct xv6_walk {
+    uint64_t entries[3];    /* those of levels 2, 1 and 0: the last of them that was read is a leaf, or not valid */
+    uint32_t count;         /* how many were read */
 };
 
 /* Why an image doesn't boot. xv6_copy answers XV6_BOOT_MEMORY alone. */
@@ -143,6 +149,7 @@ uint32_t xv6_raw_wait(struct xv6_machine *machine, uint32_t pid, struct xv6_wait
 uint32_t xv6_raw_directory(struct xv6_machine *machine, uint32_t pid);
 uint32_t xv6_raw_fault(struct xv6_machine *machine, uint32_t pid, struct xv6_fault *out);
 uint32_t xv6_raw_page(struct xv6_machine *machine, uint32_t pid, uint64_t page, uint8_t *out, size_t room);
+uint32_t xv6_raw_walk(struct xv6_machine *machine, uint32_t pid, uint64_t address, struct xv6_walk *out);
 uint32_t xv6_raw_free_frames(struct xv6_machine *machine);
 uint32_t xv6_raw_digest(struct xv6_machine *machine, uint64_t *out);
 uint32_t xv6_raw_stat(struct xv6_machine *machine, size_t inode, struct xv6_stat *out);
@@ -202,6 +209,81 @@ static inline uint32_t xv6_run(struct xv6_machine *machine, uint32_t most, uint3
 static inline uint32_t xv6_compute(struct xv6_machine *machine, uint32_t most, const uint64_t *stops, size_t count)
 {
     return xv6_is_closed(machine) || (stops == NULL && count != 0) ? 0 : xv6_raw_compute(machine, most, stops, count);
+}
+
+/* What xv6_run_to runs to. A sum of them is any of them. */
+enum { XV6_TO_CALL = 1, XV6_TO_FAULT = 2, XV6_TO_EXIT = 4 };
+
+/* What xv6_run_to came to. */
+struct xv6_reached {
+    uint32_t what;          /* XV6_TO_CALL, XV6_TO_FAULT or XV6_TO_EXIT; 0: none, since all processes wait or the steps were taken */
+    uint32_t pid;           /* of which process */
+    uint32_t done;          /* how many steps were taken: xv6_steps of as many does the same */
+    uint32_t call;          /* the number of the call, a7 */
+    int32_t status;         /* what it ended with; -1 where it is gone already */
+    struct xv6_fault fault; /* the fault, after XV6_TO_FAULT */
+};
+
+/* Whether a process came to its end in the last step, and what it ended with. */
+static inline int xv6_has_ended(struct xv6_machine *machine, uint32_t pid, int32_t *status)
+{
+    struct xv6_process now;
+    *status = -1;
+    if (xv6_raw_process(machine, pid, &now) != 0) return 1;
+    if (now.state != XV6_ENDED) return 0;
+    *status = now.status;
+    return 1;
+}
+
+/* Runs to the next call, fault or exit of a process, or of any one where `pid` is 0; at most so many steps. The machine is before the
+   instruction of a call and after that of a fault or an exit; a call that is next already is passed. 0, or why the machine stops. */
+static inline uint32_t xv6_run_to(struct xv6_machine *machine, uint32_t what, uint32_t pid, uint32_t most, struct xv6_reached *out)
+{
+    struct xv6_process now;
+    uint32_t answer, step, running, is_fault;
+    if (xv6_is_closed(machine) || out == NULL) return XV6_NULL;
+    out->what = out->pid = out->done = out->call = 0;
+    out->status = -1;
+    for (;;) {
+        out->done += xv6_raw_compute(machine, most - out->done, NULL, 0);
+        if (out->done >= most) return 0;
+        running = xv6_raw_running(machine);
+        is_fault = running != 0 && xv6_raw_fault(machine, running, &out->fault) == 0;
+        if ((what & XV6_TO_CALL) != 0 && running != 0 && !is_fault && out->done != 0 && (pid == 0 || pid == running)
+            && xv6_raw_process(machine, running, &now) == 0) {
+            out->what = XV6_TO_CALL;
+            out->pid = running;
+            out->call = (uint32_t)now.registers[17];
+            return 0;
+        }
+        answer = xv6_raw_run(machine, 1, &step);
+        out->done += step;
+        if (running != 0 && (pid == 0 || pid == running) && xv6_has_ended(machine, running, &out->status)
+            && (what & (is_fault ? (uint32_t)XV6_TO_FAULT | XV6_TO_EXIT : (uint32_t)XV6_TO_EXIT)) != 0) {
+            out->what = is_fault && (what & XV6_TO_FAULT) != 0 ? XV6_TO_FAULT : XV6_TO_EXIT;
+            out->pid = running;
+            return answer;
+        }
+        if (answer != 0 || step == 0) return answer;
+    }
+}
+
+/* Runs until the console prints, at most so many steps, and takes its bytes as xv6_console does. 0: none came before all processes wait,
+   the machine stops or the steps were taken. `done`: how many steps. Bytes that nobody took before come at once, after none. */
+static inline size_t xv6_run_to_output(struct xv6_machine *machine, uint32_t most, uint8_t *out, size_t room, uint32_t *done)
+{
+    size_t count;
+    uint32_t answer, step;
+    if (xv6_is_closed(machine) || done == NULL || out == NULL || room == 0) return 0;
+    *done = 0;
+    while ((count = xv6_raw_console(machine, out, room)) == 0) {
+        *done += xv6_raw_compute(machine, most - *done, NULL, 0);
+        if (*done >= most) return 0;
+        answer = xv6_raw_run(machine, 1, &step);
+        *done += step;
+        if (answer != 0 || step == 0) return xv6_raw_console(machine, out, room);
+    }
+    return count;
 }
 
 /* A timer interrupt. */
@@ -289,6 +371,14 @@ static inline uint32_t xv6_fault(struct xv6_machine *machine, uint32_t pid, stru
 static inline uint32_t xv6_page(struct xv6_machine *machine, uint32_t pid, uint64_t page, uint8_t *out, size_t room)
 {
     return xv6_is_closed(machine) || (out == NULL && room != 0) ? 0 : xv6_raw_page(machine, pid, page, out, room);
+}
+
+/* The walk of an address through the page table of a process, at `out`: the entries that are read one after another, from the root's on.
+   An entry has its frame's number from bit 10 on, and below: 1 valid, 2 read, 4 write, 8 execute, 16 user. A walk that ends at an entry
+   that is not valid, or after three that lead on, reaches nothing. XV6_NO_PROCESS, and then nothing is written. */
+static inline uint32_t xv6_walk(struct xv6_machine *machine, uint32_t pid, uint64_t address, struct xv6_walk *out)
+{
+    return xv6_is_closed(machine) || out == NULL ? XV6_NULL : xv6_raw_walk(machine, pid, address, out);
 }
 
 /* How many frames are free. */

@@ -20,7 +20,7 @@ from typing import Any, Dict, Iterator, List, Optional, Sequence, Tuple, Union
 
 from .library import (
     VERSION, DescriptorPut as _Descriptor, Error, FaultPut as _Fault, MachinePut as _Machine, ProcessPut as _Process, StatPut as _Stat,
-    WaitPut as _Wait, library as _library,
+    WaitPut as _Wait, WalkPut as _Walk, library as _library,
 )
 from .events import CALLS as _CALLS, Call, Event, Exit, Fault, Output, events_of
 from .schedules import Outcome, schedules
@@ -28,7 +28,7 @@ from .shown import machine_html, page_html, process_html, tree_svg
 
 __all__ = [
     "BootError", "Call", "Closed", "Descriptor", "Error", "Event", "Exit", "Fault", "Halted", "Machine", "NextFault", "Node",
-    "NotPrinted", "NotReached", "Outcome", "Output", "Page", "Pipe", "Process", "Tree", "VERSION", "Waiting", "schedules",
+    "NotPrinted", "NotReached", "Outcome", "Output", "Page", "Pipe", "Process", "TableEntry", "Tree", "VERSION", "Waiting", "schedules",
 ]
 
 PAGE_SIZE = 4096
@@ -167,6 +167,32 @@ class NextFault:
     address: int
     """The target of a jump, the address of a load or a store, else the pc."""
     pc: int
+
+
+@dataclass(frozen=True)
+class TableEntry:
+    """An entry of a page table, as a walk reads it."""
+
+    level: int
+    """2, the root's table, to 0."""
+    index: int
+    """Which of the 512 entries of its table it is."""
+    word: int
+
+    @property
+    def marks(self) -> str:
+        """Its marks as "da-uxwrv": dirty, accessed, global, user, execute, write, read, valid; "-" where one is not set."""
+        return "".join(letter if self.word >> bit & 1 else "-" for bit, letter in zip(range(7, -1, -1), "daguxwrv"))
+
+    @property
+    def frame(self) -> int:
+        """The number of the frame that it names; the machine's first has 0x80000."""
+        return self.word >> 10 & (1 << 44) - 1
+
+    @property
+    def is_leaf(self) -> bool:
+        """Whether it names a page, and no table of the next level."""
+        return bool(self.word & 1 and self.word & 14)
 
 
 @dataclass(frozen=True)
@@ -552,6 +578,17 @@ class Machine:
         with self._lock:
             marks = _library.xv6_raw_page(self._open(), _number(pid), _number(number, 64), self._room, PAGE_SIZE)
             return Page(ctypes.string_at(self._room, PAGE_SIZE), bool(marks & 2), bool(marks & 4), bool(marks & 8)) if marks else None
+
+    def walk(self, pid: int, address: int) -> Optional[List[TableEntry]]:
+        """The entries of page tables that the walk of an address reads, from the root on; None where there is no such process.
+
+        The last of them is a leaf, or is not valid.
+        """
+        at = _Walk()
+        with self._lock:
+            if _library.xv6_raw_walk(self._open(), _number(pid), _number(address, 64), at):
+                return None
+        return [TableEntry(2 - step, address >> 30 - 9 * step & 511, at.entries[step]) for step in range(at.count)]
 
     @property
     def idle(self) -> bool:

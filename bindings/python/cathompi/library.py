@@ -4,9 +4,11 @@ from __future__ import annotations
 import ctypes
 import os
 
-__all__ = ["DescriptorPut", "Error", "FaultPut", "MachinePut", "ProcessPut", "StatPut", "VERSION", "WaitPut", "library"]
+__all__ = [
+    "DescriptorPut", "Error", "FaultPut", "MachinePut", "ProcessPut", "StatPut", "VERSION", "WaitPut", "WalkPut", "library",
+]
 
-VERSION = 1002
+VERSION = 1003
 """The number of the interface, not of the release: the major number times 1000, and the minor one."""
 
 
@@ -49,6 +51,10 @@ class StatPut(ctypes.Structure):
     _fields_ = [("kind", ctypes.c_uint32), ("links", ctypes.c_uint32), ("size", ctypes.c_uint32)]
 
 
+class WalkPut(ctypes.Structure):
+    _fields_ = [("entries", ctypes.c_uint64 * 3), ("count", ctypes.c_uint32)]
+
+
 def load() -> ctypes.CDLL:
     """The library, each of its functions with its types."""
     name = os.environ.get("XV6_LIBRARY") or os.path.join(os.path.dirname(os.path.abspath(__file__)), "libxv6.so")
@@ -80,6 +86,7 @@ def load() -> ctypes.CDLL:
         ("directory", u32, [at, u32]),
         ("fault", u32, [at, u32, ctypes.POINTER(FaultPut)]),
         ("page", u32, [at, u32, u64, data, size]),
+        ("walk", u32, [at, u32, u64, ctypes.POINTER(WalkPut)]),
         ("free_frames", u32, [at]),
         ("digest", u32, [at, ctypes.POINTER(u64)]),
         ("stat", u32, [at, size, ctypes.POINTER(StatPut)]),

@@ -17,10 +17,12 @@ use Rattle.session.specs.declared.held.OpenedTold.{OpenedTold}
 use Rattle.session.specs.declared.play.Ran.{Ran}
 use Rattle.session.specs.declared.session.Session.{Session}
 use Rattle.unixmodel.specs.Memory.{Page}
-use Rattle.unixmodel.specs.Shown.{shown_stat}
+use Rattle.unixmodel.specs.Shown.{shown_process, shown_stat}
 use Rattle.vm.specs.declared.Perm.{Perm}
 use Rattle.xv6_c.specs.Numbers.{answer_number, fault_number, marks_number, or_zero}
 use Rattle.xv6_c.specs.Puts.{Puts, image_put, length_put, number_put, stat_put}
+use Rattle.walks.specs.declared.WalkTold.{WalkTold}
+use Rattle.xv6_c.specs.Walked.{ShowsWalk}
 use Rattle.xv6_c.specs.declared.told.StatTold.{StatTold}
 
 -- the number is that of an answer of which this is told
@@ -57,6 +59,11 @@ PutsDescriptor m pid descriptor old new number =
 abbrev pub PutsPipe : Option (List ℕ) → List ℕ → List ℕ → ℕ → ℕ → ℕ → Type 0
 PutsPipe pipe before after old new number =
     (count : Option ℕ) × ShowsPipe pipe before after count × Puts count old new number
+
+-- the entries that a walk reads are put, where there is such a process
+abbrev pub PutsWalk : View → ℕ → ℕ → WalkTold → WalkTold → ℕ → Type 0
+PutsWalk m pid address old new number =
+    (told : Option WalkTold) × ShowsWalk (shown_process m.state pid) address told × Puts told old new number
 
 -- the digest of a state is put
 abbrev pub DigestTells : Session → Session → ℕ → ℕ → Result ℕ Halt → Type 0

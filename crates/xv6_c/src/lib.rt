@@ -18,29 +18,32 @@ ghost use Rattle.unixmodel.specs.Shown.{shown_page, shown_process};
 ghost use Rattle.xv6_c.specs.Numbers.{or_zero};
 ghost use Rattle.xv6_c.specs.Puts.{Puts};
 ghost use Rattle.xv6_c.specs.Tells.{Boots, DigestTells, NextTells, Numbers, PageTells, PutsDescriptor, PutsPipe};
-ghost use Rattle.xv6_c.specs.Tells.{ReadTells, RefusesBy, RunsTo, SaveTells, StatTells};
+ghost use Rattle.xv6_c.specs.Tells.{PutsWalk, ReadTells, RefusesBy, RunsTo, SaveTells, StatTells};
 
 mod numbers;
 mod opens;
 mod puts;
 mod sealed;
 mod told;
+mod walking;
 
 use crate::numbers::{of_answer, of_fault, of_flag, of_marks, of_pid};
 use crate::opens::{get_mut, into_parts};
 use crate::puts::{put, put_image, put_number, put_stat};
 use crate::sealed::Sealed;
 use crate::told::StatTold;
+use crate::walking::walk;
 use machine::BootFault;
 use session::{FaultTold, OpenedTold, ProcessTold, Session, WaitTold};
 use std::alloc::Global;
+use walks::WalkTold;
 
 /// The version of these functions: the major number times 1000, and the minor one.
 #[unsafe(no_mangle)]
 pub extern "C" fn xv6_raw_version() -> u32
-    ensures { result ≡ 1002 }
+    ensures { result ≡ 1003 }
 {
-    1002
+    1003
 }
 
 // Puts the handle of a session: 0, or 4 where there is no memory for it.
@@ -262,6 +265,20 @@ pub extern "C" fn xv6_raw_page(machine: &mut Sealed, pid: u32, page: u64, out: &
     ensures same { machine.new.session ≡ machine.old.session }
 {
     of_marks(get_mut(machine).page(pid, page, out))
+}
+
+/// Puts the entries of page tables that the walk of an address reads: 0, or 1 where there is no such process.
+#[unsafe(no_mangle)]
+pub extern "C" fn xv6_raw_walk(
+    machine: &mut Sealed,
+    pid: u32,
+    address: u64,
+    out: &mut WalkTold,
+) -> u32
+    ensures put { PutsWalk machine.old.session.machine pid address out.old out.new result }
+    ensures same { machine.new.session ≡ machine.old.session }
+{
+    put(walk(get_mut(machine), pid, address), out)
 }
 
 /// How many frames are free.
