@@ -35,6 +35,7 @@ library=$(realpath "$1")
 if [ -n "$python" ]; then
     mkdir -p "$scratch/out" "$scratch/docs"
     cp "$3" "$scratch/out/xv6.img"
+    cp -rL user "$scratch/user"
     sed 's/^```.*//' docs/PYTHON.md > "$scratch/tour.txt"
     (cd "$scratch" && PYTHONPATH=$library $python -m doctest tour.txt)
     echo "check-library: Python: the tour of docs/PYTHON.md"

@@ -355,6 +355,130 @@ static void run_to(void)
     xv6_close(&twin);
 }
 
+/* ---- images and texts in memory */
+
+static const char program[] = "_start: addi a7, zero, 2\n addi a0, zero, 7\n ecall\n";
+static const char other_program[] = "_start:\n    li a0, 100000\n    li a7, 2\n    ecall\n";
+static const char wrong_program[] = "_start:\n    lli a0, 1\n    bee t0\n";
+static uint8_t made[64 * 1024], file[XV6_PROGRAM_BYTES], report[4096];
+
+/* An image of a program that ends with status 7, and of a directory with a file and a device. */
+static void make_image(void)
+{
+    static const struct xv6_entry entries[] = {
+        {5, 0, XV6_FILE, 0, 0}, {2, 0, XV6_DIRECTORY, 0, 0}, {4, 3, XV6_FILE, 0, 0}, {4, 0, XV6_DEVICE, 1, 2},
+    };
+    struct xv6_entry told[4];
+    struct xv6_assembled assembled = {9, 9};
+    struct xv6_summary summary = {0, 0};
+    static uint8_t bytes[XV6_PROGRAM_BYTES + 64];
+    size_t many;
+    must(xv6_asm((const uint8_t *)program, sizeof program - 1, file, sizeof file, &assembled) == 0, "a program is assembled");
+    must(assembled.bytes == 4096 + 12 && assembled.line == 0 && memcmp(file, "\x7f" "ELF", 4) == 0, "its file");
+    memcpy(told, entries, sizeof told);
+    told[0].size = assembled.bytes;
+    memcpy(bytes, "/init", 5);
+    memcpy(bytes + 5, file, assembled.bytes);
+    memcpy(bytes + 5 + assembled.bytes, "/d/d/ahi\n/d/c", 13);
+    many = 5 + assembled.bytes + 13;
+    must(xv6_mkfs(told, 4, bytes, many, 16, made, sizeof made) == 0, "an image is made");
+    must(xv6_check(made, sizeof made, &summary) == 0 && summary.inodes == 5 && summary.blocks == 8, "it uses 5 inodes and 8 blocks");
+    must(xv6_mkfs(told, 4, bytes, many - 1, 16, made, sizeof made) == XV6_MAKE_ENTRY, "bytes that are too few");
+    must(xv6_mkfs(told, 3, bytes, many, 16, made, sizeof made) == XV6_MAKE_ENTRY, "bytes that are too many");
+    must(xv6_mkfs(told, 4, bytes, many, 16, made, 31 * 1024) == XV6_MAKE_NUMBERS, "an image that is too short");
+    must(xv6_mkfs(told, 4, bytes, many, 15, made, sizeof made) == XV6_MAKE_NUMBERS, "an image of too few inodes");
+    must(xv6_mkfs(told + 2, 1, (const uint8_t *)"/d/ahi\n", 7, 16, made, sizeof made) == XV6_MAKE_PARENT, "no directory above");
+    told[0].kind = 4;
+    must(xv6_mkfs(told, 4, bytes, many, 16, made, sizeof made) == XV6_MAKE_ENTRY, "an entry of no kind");
+    must(xv6_check(made, sizeof made, &summary) == 0 && summary.inodes == 5, "nothing is written where it is refused");
+}
+
+/* Reads, lists and writes files of that image, which boots and ends with status 7. */
+static void use_image(void)
+{
+    struct xv6_machine machine = {NULL};
+    struct xv6_process ended;
+    struct xv6_walk walk;
+    uint8_t few[4] = {9, 9, 9, 9}, lines[256], before[sizeof made];
+    uint32_t done;
+    size_t many = 0;
+#define PATH(text) (const uint8_t *)(text), sizeof(text) - 1
+    must(xv6_get(made, sizeof made, PATH("/d/a"), few, sizeof few, &many) == 0 && many == 3, "a file");
+    must(memcmp(few, "hi\n\x09", 4) == 0, "its bytes");
+    must(xv6_get(made, sizeof made, PATH("/init"), few, 2, &many) == 0 && many == 4108, "a part of a file");
+    must(memcmp(few, "\x7f" "E\n\x09", 4) == 0, "as many bytes as there is room for");
+    memcpy(before, made, sizeof made);
+    must(xv6_put(made, sizeof made, PATH("/d/b"), PATH("you")) == 0 && memcmp(before, made, sizeof made) != 0, "a file is put");
+    must(xv6_get(made, sizeof made, PATH("/d/b"), few, sizeof few, &many) == 0 && many == 3 && memcmp(few, "you", 3) == 0, "it is there");
+    must(xv6_list(made, sizeof made, PATH("/d"), lines, sizeof lines, &many) == 0 && many == 5 * 30, "a list of five");
+    must(memcmp(lines + 4 * 30, "b              2     6      3\n", 30) == 0, "its last line");
+    memcpy(before, made, sizeof made);
+    must(xv6_put(made, sizeof made, PATH("/d"), PATH("x")) == XV6_PATH_IS_DIRECTORY, "a directory is no file");
+    must(xv6_put(made, sizeof made, PATH("/d/c"), PATH("x")) == XV6_PATH_EXISTS, "a device is no file");
+    must(xv6_put(made, sizeof made, PATH("/e/c"), PATH("x")) == XV6_PATH_NOT_FOUND, "no directory above");
+    must(xv6_put(made, sizeof made, PATH("/big"), file, sizeof file) == XV6_PATH_BLOCKS, "a file that is too large");
+    must(memcmp(before, made, sizeof made) == 0, "nothing is changed where it is refused");
+    must(xv6_get(made, sizeof made, PATH("/none"), few, sizeof few, &many) == XV6_PATH_NOT_FOUND, "no file");
+    must(xv6_list(made, sizeof made, PATH("/init"), lines, sizeof lines, &many) == XV6_PATH_NOT_DIRECTORY, "no directory");
+    must(xv6_boot(made, sizeof made, 64, &machine) == 0, "the image boots");
+    must(xv6_walk(&machine, 1, 0, &walk) == 0 && walk.count == 3, "the walk of address 0");
+    must((walk.entries[0] & 31) == 1 && (walk.entries[1] & 31) == 1 && (walk.entries[2] & 31) == 31, "two tables and a leaf");
+    must(xv6_walk(&machine, 1, (uint64_t)1 << 38, &walk) == 0 && walk.count == 0, "an address that is not canonical");
+    must(xv6_walk(&machine, 77, 0, &walk) == XV6_NO_PROCESS, "no process to walk for");
+    must(xv6_run(&machine, MANY, &done) == XV6_INIT_ENDED, "process 1 ends");
+    must(xv6_process(&machine, 1, &ended) == 0 && ended.status == 7, "with status 7");
+    xv6_close(&machine);
+}
+
+/* A program that loads from where it has no page. */
+static void run_to_fault(void)
+{
+    static const char text[] = "_start: lui a0, 0x700\n ld a1, 0(a0)\n";
+    struct xv6_assembled assembled;
+    struct xv6_machine machine = {NULL};
+    struct xv6_reached reached;
+    must(xv6_asm(PATH(text), file, sizeof file, &assembled) == 0, "a program that faults");
+    must(xv6_put(made, sizeof made, PATH("/init"), file, assembled.bytes) == 0, "it is put");
+    must(xv6_boot(made, sizeof made, 64, &machine) == 0, "it boots");
+    must(xv6_run_to(&machine, XV6_TO_FAULT, 1, MANY, &reached) == XV6_INIT_ENDED && reached.what == XV6_TO_FAULT, "to its fault");
+    must(reached.fault.cause == XV6_LOAD_PAGE && reached.fault.address == 0x700000 && reached.fault.pc == 4, "which is a load's");
+    xv6_close(&machine);
+}
+
+/* Bytes that are no image are refused, by each function alike. */
+static void refuse_bytes(void)
+{
+    struct xv6_summary summary = {1, 2};
+    uint8_t few[4];
+    size_t many = 7;
+    must(xv6_check(made, sizeof made - 1, &summary) == XV6_IMAGE_LENGTH && summary.inodes == 1, "a length that is odd");
+    must(xv6_check(NULL, 0, &summary) == XV6_IMAGE_LENGTH, "no bytes");
+    made[1024] ^= 1;
+    must(xv6_check(made, sizeof made, &summary) == XV6_IMAGE_MAGIC, "another magic number");
+    must(xv6_get(made, sizeof made, PATH("/init"), few, sizeof few, &many) == XV6_IMAGE_MAGIC && many == 7, "no file of no image");
+    must(xv6_put(made, sizeof made, PATH("/init"), PATH("x")) == XV6_IMAGE_MAGIC, "no file is put into no image");
+    must(xv6_list(made, sizeof made, PATH("/"), few, sizeof few, &many) == XV6_IMAGE_MAGIC, "no list of no image");
+    made[1024] ^= 1;
+    must(xv6_migrate(made, sizeof made) == XV6_IMAGE_MAGIC, "an image that is not of the other format");
+}
+
+/* Texts for other assemblers. */
+static void expand_texts(void)
+{
+    struct xv6_expanded told = {9, 9};
+    struct xv6_assembled assembled = {9, 9};
+    const uint8_t *text = (const uint8_t *)other_program;
+    must(xv6_as(text, sizeof other_program - 1, file, sizeof file, report, sizeof report, &told) == 0, "a text is expanded");
+    must(told.bytes == 4096 + 16 && told.report < sizeof report, "its file and its report");
+    must(memcmp(report + told.report - 11, "4 12 ecall\n", 11) == 0, "the last line of its report");
+    must(xv6_as((const uint8_t *)wrong_program, sizeof wrong_program - 1, file, sizeof file, report, sizeof report, &told) == XV6_AS_FAULTS, "faults");
+    must(told.bytes == 0 && memcmp(report, "2 5 ", 4) == 0, "the first in line 2, column 5");
+    must(xv6_asm((const uint8_t *)wrong_program, sizeof wrong_program - 1, file, sizeof file, &assembled) == XV6_ASM_MNEMONIC, "a fault");
+    must(assembled.line == 2 && assembled.bytes == 0, "in line 2");
+    must(xv6_asm(PATH("\xff"), file, sizeof file, &assembled) == XV6_ASM_UTF8 && assembled.line == 0, "a text that is none");
+    must(xv6_asm(PATH("x: x:"), file, sizeof file, &assembled) != 0, "what is no line");
+}
+
 /* ---- arguments that are wrong */
 
 static struct xv6_machine up, closed, copied;
@@ -426,6 +550,25 @@ static void refuse_handle(struct xv6_machine *machine)
     xv6_close(machine);
 }
 
+/* What must not be null. */
+static void refuse_nulls(void)
+{
+    struct xv6_summary summary;
+    struct xv6_assembled assembled;
+    struct xv6_expanded told;
+    size_t many;
+    must(xv6_mkfs(NULL, 1, made, 1, 16, made, sizeof made) == XV6_NULL && xv6_mkfs(NULL, 0, NULL, 1, 16, made, 1) == XV6_NULL, "mkfs");
+    must(xv6_mkfs(NULL, 0, NULL, 0, 16, NULL, 1) == XV6_NULL && xv6_check(NULL, 1, &summary) == XV6_NULL, "mkfs and check");
+    must(xv6_check(made, sizeof made, NULL) == XV6_NULL && xv6_migrate(NULL, 1) == XV6_NULL, "check and migrate");
+    must(xv6_get(NULL, 1, PATH("/"), room, 1, &many) == XV6_NULL && xv6_get(made, 1, NULL, 1, room, 1, &many) == XV6_NULL, "get");
+    must(xv6_get(made, 1, PATH("/"), NULL, 1, &many) == XV6_NULL && xv6_get(made, 1, PATH("/"), room, 1, NULL) == XV6_NULL, "get");
+    must(xv6_list(NULL, 1, PATH("/"), room, 1, &many) == XV6_NULL && xv6_list(made, 1, PATH("/"), room, 1, NULL) == XV6_NULL, "list");
+    must(xv6_put(NULL, 1, PATH("/"), PATH("x")) == XV6_NULL && xv6_put(made, 1, PATH("/"), NULL, 1) == XV6_NULL, "put");
+    must(xv6_asm(NULL, 1, file, 1, &assembled) == XV6_NULL && xv6_asm(PATH("x"), NULL, 1, &assembled) == XV6_NULL, "asm");
+    must(xv6_asm(PATH("x"), file, 1, NULL) == XV6_NULL && xv6_as(PATH("x"), file, 1, NULL, 1, &told) == XV6_NULL, "asm and as");
+    must(xv6_as(NULL, 1, file, 1, report, 1, &told) == XV6_NULL && xv6_as(PATH("x"), file, 1, report, 1, NULL) == XV6_NULL, "as");
+}
+
 /* A place that is null, for a machine that is up. */
 static void refuse_places(void)
 {
@@ -490,6 +633,7 @@ static void press_keys(void)
 static void refuse(void)
 {
     refuse_images();
+    refuse_nulls();
     refuse_handle(NULL);
     must(xv6_boot(image, length, FRAMES, &closed) == 0, "the image boots again");
     xv6_close(&closed);
@@ -517,6 +661,11 @@ int main(int argc, char **argv)
     copy_stopped();
     watch();
     run_to();
+    make_image();
+    use_image();
+    run_to_fault();
+    refuse_bytes();
+    expand_texts();
     refuse();
     free(image);
     return wrong;

@@ -29,6 +29,9 @@ extern "C" {
    changes, or a struct that does, adds 1000. */
 #define XV6_VERSION 1003
 
+/* The most bytes that xv6_asm and xv6_as make of a text. */
+#define XV6_PROGRAM_BYTES 274432u
+
 /* A machine. All of it is cleared before xv6_boot and xv6_copy, and after xv6_close. */
 struct xv6_machine {
     void *inside;
@@ -85,6 +88,33 @@ struct xv6_walk {
     uint32_t count;         /* how many were read */
 };
 
+/* What an image has at a path. */
+struct xv6_entry {
+    uint64_t path;          /* how many bytes its path has */
+    uint64_t size;          /* how many bytes the file has; 0 of what is none */
+    uint32_t kind;          /* XV6_DIRECTORY, XV6_FILE or XV6_DEVICE */
+    uint16_t major;         /* which driver the device has, and which of the driver's devices it is; 0 of what is none */
+    uint16_t minor;
+};
+
+/* What an image uses. */
+struct xv6_summary {
+    uint64_t inodes;
+    uint64_t blocks;        /* of 1024 bytes, for data */
+};
+
+/* What became of an assembly text. */
+struct xv6_assembled {
+    uint64_t bytes;         /* how many the program's file has; 0 where there is none */
+    uint64_t line;          /* the line of the fault, from 1 on; 0 where there is none */
+};
+
+/* What became of a text as other assemblers take it. */
+struct xv6_expanded {
+    uint64_t bytes;         /* how many the program's file has; 0 where there is none */
+    uint64_t report;        /* how many the report has */
+};
+
 /* Why an image doesn't boot. xv6_copy answers XV6_BOOT_MEMORY alone. */
 enum {
     XV6_BOOT_IMAGE = 1,     /* the bytes are no image */
@@ -101,6 +131,68 @@ enum {
     XV6_CONSOLE_LOST = 3,   /* the host has no memory for the console's bytes */
     XV6_HALTED = 4          /* it had stopped before */
 };
+
+/* The host has no memory for what was asked. */
+enum { XV6_NO_MEMORY = 4 };
+
+/* Why the bytes are no image: the first of these rules that they break. */
+enum {
+    XV6_IMAGE_LENGTH = 101,         /* they are not as many as the super block says */
+    XV6_IMAGE_MAGIC = 102,          /* the magic number is wrong */
+    XV6_IMAGE_NUMBERS = 103,        /* the numbers of the super block don't fit one another */
+    XV6_IMAGE_NODE_TYPE = 104,      /* an inode has an unknown type, or the root is no directory */
+    XV6_IMAGE_ADDRESS = 105,        /* an inode names what is no data block, or too many */
+    XV6_IMAGE_SHARED_BLOCK = 106,   /* a block is named twice */
+    XV6_IMAGE_BITMAP = 107,         /* the bitmap doesn't mark the blocks that are in use */
+    XV6_IMAGE_SIZE = 108,           /* an inode has a size that its type can't have */
+    XV6_IMAGE_ENTRY = 109,          /* an entry of a directory is wrong */
+    XV6_IMAGE_LINKS = 110,          /* a count of links is wrong */
+    XV6_IMAGE_UNREACHED = 111       /* an inode in use isn't reached from the root */
+};
+
+/* Why nothing is read from a path of an image, or put there. */
+enum {
+    XV6_PATH_NOT_FOUND = 201,       /* there is no file, or none of the directories above it */
+    XV6_PATH_NOT_DIRECTORY = 202,
+    XV6_PATH_EXISTS = 203,          /* a device is there */
+    XV6_PATH_IS_DIRECTORY = 204,
+    XV6_PATH_NOT_EMPTY = 205,       /* never, as the next three */
+    XV6_PATH_DOT = 206,
+    XV6_PATH_DEAD = 207,
+    XV6_PATH_LINKS = 208,
+    XV6_PATH_BLOCKS = 209,          /* no block is free, or the file would be too long */
+    XV6_PATH_INODES = 210,          /* no inode is free */
+    XV6_PATH_FULL = 211             /* the directory is full */
+};
+
+/* Why no image is made. */
+enum {
+    XV6_MAKE_NAME = 301,            /* a path doesn't begin with a slash, or one of its names is none */
+    XV6_MAKE_TWICE = 302,           /* a name is there already */
+    XV6_MAKE_BLOCKS = 303,          /* a file or a directory would be too long, or the blocks don't suffice */
+    XV6_MAKE_INODES = 304,          /* no inode is left */
+    XV6_MAKE_PARENT = 305,          /* the directory above is neither the root nor an earlier entry */
+    XV6_MAKE_NUMBERS = 306,         /* no image has so many bytes and inodes */
+    XV6_MAKE_ENTRY = 307            /* an entry is of no kind, or the bytes are not those of the entries */
+};
+
+/* What xv6_migrate answers where the files take more blocks than the image has. */
+enum { XV6_MIGRATE_BLOCKS = 401 };
+
+/* What is wrong with a line of an assembly text; of more than one the least. */
+enum {
+    XV6_ASM_UTF8 = 500,             /* the text is no UTF-8; told with line 0 */
+    XV6_ASM_SYNTAX = 501,           /* a character or a string that isn't read, or a word that begins with no letter or dot */
+    XV6_ASM_MNEMONIC = 502,         /* no instruction or directive is called so */
+    XV6_ASM_OPERAND = 503,          /* the operands are not those of the word */
+    XV6_ASM_RANGE = 504,            /* a number or a distance doesn't fit, or the program has more than 270336 bytes */
+    XV6_ASM_LABEL = 505,            /* nothing defines a label */
+    XV6_ASM_TWICE = 506,            /* an earlier line defines the label */
+    XV6_ASM_ALIGN = 507             /* an instruction at an address that is no multiple of 4, or an odd distance */
+};
+
+/* What xv6_as answers where the report says what is wrong with the text. */
+enum { XV6_AS_FAULTS = 600 };
 
 /* What xv6_process returns where there is no such process, and others where there is nothing to put. */
 enum { XV6_NO_PROCESS = 1, XV6_NONE = 1 };
@@ -155,6 +247,15 @@ uint32_t xv6_raw_digest(struct xv6_machine *machine, uint64_t *out);
 uint32_t xv6_raw_stat(struct xv6_machine *machine, size_t inode, struct xv6_stat *out);
 uint32_t xv6_raw_read(struct xv6_machine *machine, size_t inode, size_t at, uint8_t *out, size_t room, size_t *count);
 uint32_t xv6_raw_save(struct xv6_machine machine, uint8_t *out, size_t room, size_t *bytes);
+uint32_t xv6_raw_mkfs(const struct xv6_entry *entries, size_t count, const uint8_t *bytes, size_t length, uint32_t inodes, uint8_t *image,
+    size_t room);
+uint32_t xv6_raw_check(const uint8_t *image, size_t length, struct xv6_summary *out);
+uint32_t xv6_raw_list(const uint8_t *image, size_t length, const uint8_t *path, size_t path_length, uint8_t *out, size_t room, size_t *count);
+uint32_t xv6_raw_get(const uint8_t *image, size_t length, const uint8_t *path, size_t path_length, uint8_t *out, size_t room, size_t *count);
+uint32_t xv6_raw_put(uint8_t *image, size_t length, const uint8_t *path, size_t path_length, const uint8_t *bytes, size_t count);
+uint32_t xv6_raw_migrate(uint8_t *image, size_t length);
+uint32_t xv6_raw_asm(const uint8_t *text, size_t length, uint8_t *out, size_t room, struct xv6_assembled *told);
+uint32_t xv6_raw_as(const uint8_t *text, size_t length, uint8_t *out, size_t room, uint8_t *report, size_t report_room, struct xv6_expanded *told);
 
 /* ---- the functions to call */
 
@@ -416,6 +517,78 @@ static inline uint32_t xv6_save(struct xv6_machine *machine, uint8_t *out, size_
     answer = xv6_raw_save(*machine, out, room, bytes);
     machine->inside = NULL;
     return answer;
+}
+
+/* ---- images in memory: no machine is needed */
+
+/* Makes an image of the entries of a manifest, as many bytes as there is room for: 1024 a block. `bytes` has, for each entry in its turn,
+   its path and, of a file, its contents. Paths begin with a slash, and a directory comes before what is in it; the first entry is inode 2.
+   XV6_MAKE_.. or XV6_NO_MEMORY, and then nothing is written. */
+static inline uint32_t xv6_mkfs(const struct xv6_entry *entries, size_t count, const uint8_t *bytes, size_t length, uint32_t inodes,
+    uint8_t *image, size_t room)
+{
+    if ((entries == NULL && count != 0) || (bytes == NULL && length != 0) || (image == NULL && room != 0)) return XV6_NULL;
+    return xv6_raw_mkfs(entries, count, bytes, length, inodes, image, room);
+}
+
+/* Checks an image. What it uses comes to `out`. XV6_IMAGE_.. or XV6_NO_MEMORY, and then nothing is written. */
+static inline uint32_t xv6_check(const uint8_t *image, size_t length, struct xv6_summary *out)
+{
+    return out == NULL || (image == NULL && length != 0) ? XV6_NULL : xv6_raw_check(image, length, out);
+}
+
+/* Lists the directory of a path: a line for each entry, its name in 14 places, its type (1 directory, 2 file, 3 device), its number in 5
+   and its size in 6, with a blank between two and a newline after the last, as `xv6 ls`. As many bytes as there is room for come to `out`.
+   `count`: how many the list has. XV6_IMAGE_.., XV6_PATH_.. or XV6_NO_MEMORY, and then nothing is written. */
+static inline uint32_t xv6_list(const uint8_t *image, size_t length, const uint8_t *path, size_t path_length, uint8_t *out, size_t room,
+    size_t *count)
+{
+    if (count == NULL || (image == NULL && length != 0) || (path == NULL && path_length != 0) || (out == NULL && room != 0)) return XV6_NULL;
+    return xv6_raw_list(image, length, path, path_length, out, room, count);
+}
+
+/* Reads the file of a path: as many bytes as there is room for. `count`: how many the file has. XV6_IMAGE_.., XV6_PATH_.. or
+   XV6_NO_MEMORY, and then nothing is written. */
+static inline uint32_t xv6_get(const uint8_t *image, size_t length, const uint8_t *path, size_t path_length, uint8_t *out, size_t room,
+    size_t *count)
+{
+    if (count == NULL || (image == NULL && length != 0) || (path == NULL && path_length != 0) || (out == NULL && room != 0)) return XV6_NULL;
+    return xv6_raw_get(image, length, path, path_length, out, room, count);
+}
+
+/* Puts a file into an image, in place: the file of the path has these bytes, and is made where there is none. All other files stay, and an
+   image has as many bytes as before. XV6_IMAGE_.., XV6_PATH_.. or XV6_NO_MEMORY, and then nothing is changed. */
+static inline uint32_t xv6_put(uint8_t *image, size_t length, const uint8_t *path, size_t path_length, const uint8_t *bytes, size_t count)
+{
+    if ((image == NULL && length != 0) || (path == NULL && path_length != 0) || (bytes == NULL && count != 0)) return XV6_NULL;
+    return xv6_raw_put(image, length, path, path_length, bytes, count);
+}
+
+/* Makes of an image of the format of small files, which earlier versions wrote, one of the format in use with the same files, in place.
+   XV6_IMAGE_.., XV6_MIGRATE_BLOCKS or XV6_NO_MEMORY, and then nothing is changed. */
+static inline uint32_t xv6_migrate(uint8_t *image, size_t length)
+{
+    return image == NULL && length != 0 ? XV6_NULL : xv6_raw_migrate(image, length);
+}
+
+/* Assembles a text, as `xv6 asm`. As many bytes of the program's file as there is room for come to `out`; it has at most XV6_PROGRAM_BYTES.
+   XV6_ASM_.. or XV6_NO_MEMORY, and then nothing comes to `out`, and `told` has the line. */
+static inline uint32_t xv6_asm(const uint8_t *text, size_t length, uint8_t *out, size_t room, struct xv6_assembled *told)
+{
+    return told == NULL || (text == NULL && length != 0) || (out == NULL && room != 0) ? XV6_NULL : xv6_raw_asm(text, length, out, room, told);
+}
+
+/* Assembles a text as other assemblers take it, as `xv6 as`: the program's file comes to `out`, and a report in lines of text to `report`,
+   each as many bytes as there is room for; `told` has how many they are. It includes no other files.
+   0: the report has the lines that xv6_asm takes, each as "LINE ADDRESS TEXT": the line of the text that it comes of, from 1 on, or 0, and
+   its address in the program, in decimal.
+   XV6_AS_FAULTS: the report has all that is wrong, in the order of the text, each as "LINE COLUMN WORDS", both from 1 on; nothing comes to
+   `out`. XV6_NO_MEMORY: nothing is written. */
+static inline uint32_t xv6_as(const uint8_t *text, size_t length, uint8_t *out, size_t room, uint8_t *report, size_t report_room,
+    struct xv6_expanded *told)
+{
+    if (told == NULL || (text == NULL && length != 0) || (out == NULL && room != 0) || (report == NULL && report_room != 0)) return XV6_NULL;
+    return xv6_raw_as(text, length, out, room, report, report_room, told);
 }
 
 #ifdef __cplusplus

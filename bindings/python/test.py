@@ -1,6 +1,7 @@
 #!/usr/bin/env python3
 """test.py FOLDER PROGRAM IMAGE: the package in a folder, 50 random sessions, whose console has the bytes of `xv6 run`, and 50 that are copied."""
 import copy
+import doctest
 import os
 import random
 import subprocess
@@ -9,8 +10,10 @@ import tempfile
 from concurrent.futures import ThreadPoolExecutor
 
 sys.path.insert(0, os.path.abspath(sys.argv[1]))
+import cathompi.images
 from cathompi import (
-    BootError, Call, Closed, Error, Exit, Fault, Halted, Machine, NotPrinted, NotReached, Output, schedules,
+    AssemblyError, BootError, Call, Closed, Error, Exit, Fault, Halted, Image, ImageError, Machine, NotPrinted, NotReached, Output, assemble,
+    assemble_exactly, schedules,
 )
 
 SEEDS = 50
@@ -224,6 +227,81 @@ def try_pictures(image):
     assert "closed" in machine._repr_html_()
 
 
+HELLO = b"""
+_start:
+    li a0, 1
+    la a1, text
+    li a2, 3
+    li a7, 16
+    ecall
+    li a0, 5
+    li a7, 2
+    ecall
+text:
+    .ascii "hi\\n"
+"""
+
+
+def run_as(program, *words):
+    """What the program does with these words: its status, and its standard error."""
+    ran = subprocess.run([program, *words], capture_output=True)
+    return ran.returncode, ran.stderr
+
+
+def try_images(program, path, image):
+    """Images in memory are those of the program's commands, byte for byte, and so are their refusals."""
+    own = Image.from_dir(os.path.join(os.path.dirname(__file__), "../../user"))
+    assert bytes(own) == image and own.check() == Image(image).check() and own.files().keys() == Machine(image).files().keys() - {"/", "/console"}
+    with tempfile.TemporaryDirectory() as folder:
+        other, text, file = (os.path.join(folder, name) for name in ("img", "hi.s", "hi"))
+        own.write(other)
+        with open(text, "wb") as out:
+            out.write(HELLO)
+        assert run_as(program, "as", text, "-o", file)[0] == 0 and run_as(program, "put", other, "/hi", file)[0] == 0
+        own["/hi"] = assemble(HELLO)
+        with open(file, "rb") as made:
+            assert own["/hi"] == made.read() == assemble(HELLO).file
+        assert bytes(own) == bytes(Image.read(other)) and len(own["/hi"]) == own.files()["/hi"].size
+        listed = subprocess.run([program, "ls", other, "/"], capture_output=True, check=True).stdout.decode().splitlines()
+        assert [line.split()[0] for line in listed] == [entry.name for entry in own.list()]
+    with Machine(own) as machine:
+        machine.run_until("$ ")
+        machine.type("hi\n")
+        assert machine.until(exit=True).status == 5 and machine.run_until("$ ").endswith(b"hi\n$ ")
+        assert [entry.level for entry in machine.walk(2, 0)] == [2, 1, 0] and machine.walk(2, 0)[-1].is_leaf and machine.walk(99, 0) is None
+        assert machine.image().files().keys() >= {"/hi", "/console"} and machine.walk(2, 1 << 38) == []
+    try_refusals(own)
+    assert doctest.testmod(cathompi.images).failed == 0
+
+
+def refused(number, call, *arguments):
+    """Whether a call raises an error of an image with this number."""
+    try:
+        call(*arguments)
+    except ImageError as error:
+        return error.number == number and bool(error.reason)
+    return False
+
+
+def try_refusals(own):
+    """What is refused changes nothing, and says why."""
+    before = bytes(own)
+    assert raises(FileNotFoundError, own.__getitem__, "/none") and raises(FileNotFoundError, own.__setitem__, "/none/x", b"")
+    assert refused(204, own.__setitem__, "/", b"") and refused(209, own.__setitem__, "/big", bytes(3 << 20)) and bytes(own) == before
+    assert refused(101, Image, before[:-1]) and refused(102, Image.migrated, before) and refused(101, Image, bytes(1 << 16))
+    assert refused(301, Image.make, {"x": None}) and refused(305, Image.make, {"/d/x": b""})
+    big, file = Image.make({"/f": b"x" * 70000, "/empty": b""}, blocks=200, inodes=16), "/f"
+    assert big[file] == b"x" * 70000 and big["/empty"] == b""
+    for text in ("x y", "_start: lli a0, 1", "_start: addi a0, a0, 5000"):
+        assert raises(AssemblyError, assemble, text) and raises(AssemblyError, assemble_exactly, text)
+    try:
+        assemble("_start:\n    lli a0, 1\n\n    bee t0\n")
+    except AssemblyError as error:
+        assert [fault.line for fault in error.faults] == [2, 4] and error.faults[0].column == 5
+    assert assemble_exactly("_start: addi a7, zero, 2\necall\n") == assemble("_start: addi a7, zero, 2\necall\n").file
+    assert raises(AssemblyError, assemble_exactly, b"\xff")
+
+
 def told(machine):
     """All processes with their registers, and how many frames are free."""
     return machine.processes(), machine.free_frames
@@ -335,7 +413,8 @@ def main():
     try_faults(os.path.abspath(program))
     try_schedules(image)
     try_pictures(image)
-    print(f"check-library: Python: a session, with {free} frames free; files; errors; copies; threads; events; looks; stops; faults; schedules")
+    try_images(os.path.abspath(program), path, image)
+    print(f"check-library: Python: a session, with {free} frames free; files; errors; copies; threads; events; looks; stops; faults; schedules; images")
     try_copied_seeds(image)
     print(f"check-library: Python: {SEEDS} random sessions, each copied on its way")
     print(f"check-library: Python: {SEEDS} random sessions, {try_seeds(os.path.abspath(program), path, image)} bytes, the same as the program's")

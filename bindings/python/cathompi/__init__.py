@@ -23,12 +23,14 @@ from .library import (
     WaitPut as _Wait, WalkPut as _Walk, library as _library,
 )
 from .events import CALLS as _CALLS, Call, Event, Exit, Fault, Output, events_of
+from .images import AssemblyError, AssemblyFault, Entry, Image, ImageError, Line, Program, Usage, assemble, assemble_exactly
 from .schedules import Outcome, schedules
 from .shown import machine_html, page_html, process_html, tree_svg
 
 __all__ = [
-    "BootError", "Call", "Closed", "Descriptor", "Error", "Event", "Exit", "Fault", "Halted", "Machine", "NextFault", "Node",
-    "NotPrinted", "NotReached", "Outcome", "Output", "Page", "Pipe", "Process", "TableEntry", "Tree", "VERSION", "Waiting", "schedules",
+    "AssemblyError", "AssemblyFault", "BootError", "Call", "Closed", "Descriptor", "Entry", "Error", "Event", "Exit", "Fault", "Halted", "Image",
+    "ImageError", "Line", "Machine", "NextFault", "Node", "NotPrinted", "NotReached", "Outcome", "Output", "Page", "Pipe", "Process", "Program",
+    "TableEntry", "Tree", "Usage", "VERSION", "Waiting", "assemble", "assemble_exactly", "schedules",
 ]
 
 PAGE_SIZE = 4096
@@ -243,8 +245,8 @@ class Machine:
     they are printed, until no process runs or is ready.
     """
 
-    def __init__(self, image: bytes, frames: int = 256) -> None:
-        image = image if isinstance(image, bytes) else bytes(memoryview(image))
+    def __init__(self, image: Union[bytes, bytearray, memoryview, Image], frames: int = 256) -> None:
+        image = image if isinstance(image, bytes) else bytes(image if isinstance(image, Image) else memoryview(image))
         self._set_up(len(image))
         fault = _library.xv6_raw_boot(image, len(image), _number(frames), self._at)
         if fault:
@@ -296,6 +298,11 @@ class Machine:
             at.inside = None
             _raise_for(answer)
             return image.raw[:count.value]
+
+    def image(self) -> Image:
+        """The image that `save` would give now; the machine goes on."""
+        with self.copy() as copy:
+            return Image(copy.save())
 
     @property
     def closed(self) -> bool:

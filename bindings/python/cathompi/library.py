@@ -5,7 +5,8 @@ import ctypes
 import os
 
 __all__ = [
-    "DescriptorPut", "Error", "FaultPut", "MachinePut", "ProcessPut", "StatPut", "VERSION", "WaitPut", "WalkPut", "library",
+    "AssembledPut", "DescriptorPut", "EntryPut", "Error", "ExpandedPut", "FaultPut", "MachinePut", "ProcessPut", "StatPut", "SummaryPut",
+    "VERSION", "WaitPut", "WalkPut", "library",
 ]
 
 VERSION = 1003
@@ -55,6 +56,25 @@ class WalkPut(ctypes.Structure):
     _fields_ = [("entries", ctypes.c_uint64 * 3), ("count", ctypes.c_uint32)]
 
 
+class EntryPut(ctypes.Structure):
+    _fields_ = [
+        ("path", ctypes.c_uint64), ("size", ctypes.c_uint64), ("kind", ctypes.c_uint32), ("major", ctypes.c_uint16),
+        ("minor", ctypes.c_uint16),
+    ]
+
+
+class SummaryPut(ctypes.Structure):
+    _fields_ = [("inodes", ctypes.c_uint64), ("blocks", ctypes.c_uint64)]
+
+
+class AssembledPut(ctypes.Structure):
+    _fields_ = [("bytes", ctypes.c_uint64), ("line", ctypes.c_uint64)]
+
+
+class ExpandedPut(ctypes.Structure):
+    _fields_ = [("bytes", ctypes.c_uint64), ("report", ctypes.c_uint64)]
+
+
 def load() -> ctypes.CDLL:
     """The library, each of its functions with its types."""
     name = os.environ.get("XV6_LIBRARY") or os.path.join(os.path.dirname(os.path.abspath(__file__)), "libxv6.so")
@@ -92,6 +112,14 @@ def load() -> ctypes.CDLL:
         ("stat", u32, [at, size, ctypes.POINTER(StatPut)]),
         ("read", u32, [at, size, size, data, size, ctypes.POINTER(size)]),
         ("save", u32, [MachinePut, data, size, ctypes.POINTER(size)]),
+        ("mkfs", u32, [ctypes.POINTER(EntryPut), size, data, size, u32, data, size]),
+        ("check", u32, [data, size, ctypes.POINTER(SummaryPut)]),
+        ("list", u32, [data, size, data, size, data, size, ctypes.POINTER(size)]),
+        ("get", u32, [data, size, data, size, data, size, ctypes.POINTER(size)]),
+        ("put", u32, [data, size, data, size, data, size]),
+        ("migrate", u32, [data, size]),
+        ("asm", u32, [data, size, data, size, ctypes.POINTER(AssembledPut)]),
+        ("as", u32, [data, size, data, size, data, size, ctypes.POINTER(ExpandedPut)]),
     ]:
         function = getattr(library, "xv6_raw_" + function_name)
         function.restype, function.argtypes = answer, takes

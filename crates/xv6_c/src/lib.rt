@@ -20,6 +20,7 @@ ghost use Rattle.xv6_c.specs.Puts.{Puts};
 ghost use Rattle.xv6_c.specs.Tells.{Boots, DigestTells, NextTells, Numbers, PageTells, PutsDescriptor, PutsPipe};
 ghost use Rattle.xv6_c.specs.Tells.{PutsWalk, ReadTells, RefusesBy, RunsTo, SaveTells, StatTells};
 
+mod images;
 mod numbers;
 mod opens;
 mod puts;
@@ -27,6 +28,10 @@ mod sealed;
 mod told;
 mod walking;
 
+pub use crate::images::{
+    xv6_raw_as, xv6_raw_asm, xv6_raw_check, xv6_raw_get, xv6_raw_list, xv6_raw_migrate,
+    xv6_raw_mkfs, xv6_raw_put,
+};
 use crate::numbers::{of_answer, of_fault, of_flag, of_marks, of_pid};
 use crate::opens::{get_mut, into_parts};
 use crate::puts::{put, put_image, put_number, put_stat};
