@@ -1,0 +1,10 @@
+//! What gdb is sent of a machine's state, and in which states its motions end.
+#![tactic(auto)]
+
+mod looks;
+mod reasons;
+
+pub use looks::{
+    NOT_THERE, byte_at, bytes_at, push_memory_of, push_register_of, push_registers_of,
+};
+pub use reasons::{Break, Nowhere, Reasons, Someone, Stepping, Watched, is_ecall, is_stepped};
