@@ -23,9 +23,9 @@ use Rattle.proc.specs.Places as table
 use Rattle.unixmodel.specs.Outcome as ends
 use Rattle.unixmodel.specs.Next as next
 
--- ---- places
+-- ---- slots
 
--- another parent, or other registers, say nothing of the mode
+-- the mode's conditions do not depend on the parent, the registers or the pc
 pub mode-kept : (p : Process) (parent : ℕ) (registers : List ℕ) (pc : ℕ) (m : Memory) (now mode : Mode)
     → IsMode p m mode → IsMode (record p { parent = parent; registers = registers; pc = pc; mode = now }) m mode
 mode-kept p parent registers pc m now Running is = (record { descriptors = is.0.descriptors }, is.1)
@@ -34,7 +34,7 @@ mode-kept p parent registers pc m now (Waiting w) is = (record { descriptors = i
 mode-kept p parent registers pc m now (Zombie status) is =
     record { descriptors = is.descriptors; directory = is.directory }
 
--- the hart's process stands as well as its table's
+-- the running process fits its slot with the hart's registers too
 hart-placed : (s : Spaces) → slice_index s.registers 0 ≡ 0 → s.pc % 4 ≡ 0 → (o : Option Process) (q : Option SpaceView)
     → IsPlace o q → IsPlace (option_map (on_hart s) o) q
 hart-placed s zero' aligned (Some p) (Some h) is =
@@ -97,8 +97,8 @@ orphan-waits : (opens : Opens) (pid : ℕ) (o : Option Process) → WaitsWell op
 orphan-waits opens pid None is = tt
 orphan-waits opens pid (Some p) is = orphan-by (λ x. WaitsWell opens (Some x)) pid p (λ parent. is)
 
--- the loaded table has process q, which lives, in place i, and no other place runs; it was the same but for what the
--- hart has
+-- the loaded table has process q, which lives, in slot i, and no other process runs; it differs from the old one by the
+-- hart's registers and pc alone
 pub record IsLast (k : Kernel) (i : ℕ) (q : Process) (h : SpaceView) : Type 0 where
   pub was : Process
   pub process : slot k.table.places i ≡ Some was
@@ -109,7 +109,7 @@ pub record IsLast (k : Kernel) (i : ℕ) (q : Process) (h : SpaceView) : Type 0 
   pub alone : (j : ℕ) → j ≢ i → is_at j k.spaces.active ≡ false
   pub alive : lives q ≡ true
 
--- it runs
+-- process i runs
 pub last-run : (k : Kernel) (i : ℕ) (p : Process) (h : SpaceView) → IsRun k i p h → IsLast k i (on_hart k.spaces p) h
 last-run k i p h r = record {
   was = p;
@@ -122,7 +122,7 @@ last-run k i p h r = record {
   alive = ap (λ (m : Mode). not (is_zombie_mode m)) r.runs;
 }
 
--- or none does
+-- none runs
 pub last-idle : (k : Kernel) (i : ℕ) (p : Process) (h : SpaceView) → k.spaces.active ≡ None → IsThere k i p h
     → lives p ≡ true → IsLast k i p h
 last-idle k i p h idle t alive = record {
@@ -136,7 +136,7 @@ last-idle k i p h idle t alive = record {
   alive = alive;
 }
 
--- process q of place i has ended
+-- process q of slot i has ended
 abbrev pub ended_of : Kernel → ℕ → ℤ → Process → Kernel
 ended_of k i status q = record k {
   tree = all_dropped k.tree (gone_nodes k.files q.descriptors ++ q.directory ∷ []);
@@ -284,7 +284,7 @@ rests-at : (o : Option ℕ) (j : ℕ) → o ≢ Some j → is_at j o ≡ false
 rests-at None j other = refl
 rests-at (Some i) j other = other-at i j (λ same. other (ap Some (sym same)))
 
--- k is what the fields show, and now is the kernel's value
+-- k is what the fields show, now is the kernel's value
 pub marks-keeps : {k now : Kernel} (j : ℕ) → k ≡ now → IsKernel k → now.spaces.active ≢ Some j → IsKernel (marked k j)
 marks-keeps {k} {now} j same is other =
     let o = slot k.table.places j in
@@ -309,7 +309,7 @@ pub picked-state : (k : Kernel) (i : ℕ) → k.spaces.active ≡ None
     → state_of (picked k i) ≡ record (state_of k) { last = i }
 picked-state k i idle = rw idle refl
 
--- process p, which lives, stands in place i, and none runs
+-- process p lives in slot i, and none runs
 module _ (k : Kernel) (i : ℕ) (p : Process) (h : SpaceView) (is : IsKernel k) (idle : k.spaces.active ≡ None)
     (t : IsThere k i p h) (alive : lives p ≡ true) where
   in-table : i < length k.table.places
@@ -386,7 +386,7 @@ module _ (k : Kernel) (i : ℕ) (p : Process) (h : SpaceView) (is : IsKernel k) 
       ∙ ap quiet (ended-state k is z a i p h last (negsuc 0) up
       ∙ sym (ap state_of (ended-is k is z a i p h last (negsuc 0))))
 
--- what the hart takes over; over the fields: k is what they show, and now is the kernel's value
+-- what the hart takes over, in terms of the fields: k is what they show, now is the kernel's value
 pub record Takes (k now : Kernel) (i : ℕ) (x : Process) : Type 0 where
   pub starts : record k {
     table = changed k.table i (with_mode Running);

@@ -1,4 +1,4 @@
--- The names that the lemmas of this crate import from elsewhere, passed on from one place. Declares nothing.
+-- The names from elsewhere that the lemmas of this crate import, in one file. Declares nothing.
 pub use Rattle.std.proofs.Common.{◌%◌, ◌&&◌, ◌+◌, ◌++◌, ◌-◌, ◌<◌, ◌==◌, [], ◌^◌, add-one, ap, append-nil, append_assoc}
 pub use Rattle.std.proofs.Common.{ap₂, arith, Bool, cond, drop, drop-cons, eq-eqb, Err, false, inl, inr, is_some}
 pub use Rattle.std.proofs.Common.{le_trans, length, List, map, nat_eq, nat_le, nat_lt, negsuc, None, not, Ok, Option}

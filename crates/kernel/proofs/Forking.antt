@@ -34,9 +34,9 @@ use Rattle.programs.specs.Executed.{Executes, IsExecuted, plan_at, started_by, v
 use Rattle.unixmodel.specs.Plan.{plan, push_pointers, push_strings, with_args, with_stack}
 use Rattle.unixmodel.specs.ProcessCalls.{args_at}
 
--- ---- places
+-- ---- slots
 
--- a place that is taken stays so
+-- a slot that is taken stays taken
 free-put : (os : Processes) (i : ℕ) (p q : Process) → slot os i ≡ Some p → free_slot (put os i q) ≡ free_slot os
 free-put os i p q at = rw
     (prefix_len-set (λ o. not (is_none o)) os i _ None (ap (λ o. not (is_none o)) (sym at)), length-set os i (Some q))
@@ -252,7 +252,7 @@ none-space : (q : Option SpaceView) → IsPlace None q → is_some q ≡ false
 none-space None is = refl
 none-space (Some h) is = absurd is
 
--- the place of a seat has no space
+-- the slot of a seat has no space
 pub seat-free : (k : Kernel) → IsKernel k → (seat : Seat) → seat_of k.table ≡ Ok seat
     → has_space k.spaces seat.place ≡ false
 seat-free k is seat seats =
@@ -284,7 +284,7 @@ fork-home {k} {i} x {q} up said =
     (ap home_in x.run.process ∙ home-running x.process x.run.runs
     ∙ ap (λ (y : Process). Some y.directory) (sym same)))
 
--- who comes is awake
+-- the new process is awake
 watched-forked : (k : Kernel) → Watches k → (j : ℕ) (child : Process) → is_zombie_mode child.mode ≡ false → (ds : Fds)
     → IsWatched (awaited_in (opens_of (all_shared k.files ds)) k.spaces.pipes k.console k.ticks)
     (put k.table.places j child) (slice_set k.table.awake j true)
@@ -307,7 +307,7 @@ fork-keeps {k} {i} {seat} keeps may z a {q} said fits =
       watched = watched-forked k keeps.watched seat.place (record (child_of q) { pid = seat.pid }) refl q.descriptors;
     }
 
--- ---- another program comes in the place of the one that runs
+-- ---- exec: another program replaces the one that runs
 
 -- ---- where a program begins: at a multiple of 4
 
@@ -334,7 +334,7 @@ plan-aligned files n mem argv q is =
     option_and_then_some (plan file) _ q has
     (λ args read made. ap (λ m. m % 4) (plan-pc file args q made) ∙ rounded (number_at 8 24 file)))
 
--- ---- a program is in the place of the old one
+-- ---- a program replaces the old one
 
 module _ {k : Kernel} {i : ℕ} (x : Runner k i) (new : Plan) where
   replaced-is : replaced_by k i new ≡ moved k i x.process (view_by new) (exec_registers k.spaces.registers new) new.pc

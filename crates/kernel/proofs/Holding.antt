@@ -1,4 +1,4 @@
--- Who holds the nodes of the disk: what comes of processes, open files and nodes that change.
+-- Who holds the nodes of the disk, as processes, open files and nodes change.
 use Rattle.kernel.proofs.Common.{put, ◌≡◌, ◌≢◌, ℕ, zero, suc, ◌+◌, ◌-◌, ◌<◌, ◌≤◌, Bool, true, false, cond, List, []}
 use Rattle.kernel.proofs.Common.{◌∷◌, length, map, Option, Some, None, inl, inr, refl, ap, ap₂, sym, subst, ◌∙◌, arith}
 use Rattle.kernel.proofs.Common.{IfSome, nat_lt, option_map, slice_set, SpaceView, drop, sum_by, unwrap_or, ◌||◌, ◌==◌}
@@ -20,7 +20,7 @@ use Rattle.tree.proofs.Storing.{blocks_of-set, some-node}
 use Rattle.unixmodel.specs.OpenFiles as unix_files
 use Rattle.unixmodel.specs.Process as unix
 
--- ---- tables, whose places may be free
+-- ---- tables with free slots
 
 abbrev pub Opens : Type 0
 Opens = List (Option Counted)
@@ -38,13 +38,13 @@ Pipes = List (Option (List ℕ))
 abbrev pub Fds : Type 0
 Fds = List (Option ℕ)
 
--- ---- what holds of each place
+-- ---- what holds of each slot
 
 pub slot-map : {X : Type 0} (f : X → X) (xs : List (Option X)) (j : ℕ)
     → slot (map (option_map f) xs) j ≡ option_map f (slot xs j)
 slot-map f xs j = get_or-map (option_map f) xs j None
 
--- what a changed entry has as before
+-- a changed entry has the old value
 pub map-same : {A X : Type 0} (f : Option A → X) (change : A → A) → ((x : A) → f (Some (change x)) ≡ f (Some x))
     → (o : Option A) → f (option_map change o) ≡ f o
 map-same f change same None = refl
@@ -56,33 +56,33 @@ pub orphan-by : (P : Process → Type 0) (pid : ℕ) (p : Process) → ((parent 
 orphan-by P pid p is = elim (p.parent == pid) as (λ b. P (cond b (record p { parent = 1 }) p))
     [ true ↦ is 1 | false ↦ is p.parent ]
 
--- ---- sums over places
+-- ---- sums over slots
 
 module _ {X : Type 0} (f : Option X → ℕ) where
-  -- a place counts as much as before
+  -- a slot counts as much as it did
   pub same-set : (xs : List (Option X)) (i : ℕ) (o : Option X) → f o ≡ f (slot xs i)
       → sum_by f (slice_set xs i o) ≡ sum_by f xs
   same-set xs i o same = sym (sum-map f (slice_set xs i o)) ∙ ap sum (map-set_same f xs i o None same) ∙ sum-map f xs
 
-  -- all places count as much as before
+  -- all slots count as much as they did
   pub same-map : (g : X → X) → ((o : Option X) → f (option_map g o) ≡ f o) → (xs : List (Option X))
       → sum_by f (map (option_map g) xs) ≡ sum_by f xs
   same-map g same [] = refl
   same-map g same (o ∷ os) =
       rw (sum_by-cons f (option_map g o) (map (option_map g) os), sum_by-cons f o os, same o, same-map g same os) refl
 
-  -- a free place is taken
+  -- a free slot is taken
   pub sum-put : (xs : List (Option X)) (i : ℕ) (x : X) → i < length xs → slot xs i ≡ None → f None ≡ 0
       → sum_by f (put xs i x) ≡ sum_by f xs + f (Some x)
   sum-put xs i x short free none = let was : f (slot xs i) ≡ 0 = ap f free
       ∙ none in omega (arith, sum_by-set f xs i (Some x) None short, was)
 
-  -- a place is one of those that are counted
+  -- a slot counts no more than all do
   pub least : (xs : List (Option X)) (i : ℕ) (x : X) → slot xs i ≡ Some x → f (Some x) ≤ sum_by f xs
   least xs i x at = let same : f (slot xs i) ≡ f (Some x) =
       ap f at in omega (arith, get_or-le-sum_by f xs i None (slot-within xs i x at), same)
 
--- what places have, and how many have it
+-- a number that slots hold, and how many slots hold it
 module _ {X : Type 0} (h : Option X → Option ℕ) where
   pub held-counts : h None ≡ None → (xs : List (Option X)) (j n : ℕ) → h (slot xs j) ≡ Some n
       → 1 ≤ sum_by (λ o. one_in n (h o)) xs
@@ -168,7 +168,7 @@ module _ {t : FileTree} {opens : Opens} {os : Processes} (is : IsInUse t opens o
         some,
       ))
 
--- ---- open files that come, and whose nodes stay
+-- ---- open files that are added, and whose nodes stay
 
 module _ {t : FileTree} {opens : Opens} {os : Processes} (is : IsInUse t opens os) where
   -- as many are on each node
@@ -187,7 +187,7 @@ module _ {t : FileTree} {opens : Opens} {os : Processes} (is : IsInUse t opens o
       go None was c at = absurd (none-some c at)
       go (Some d) was c at = fits-some t _ (was d refl) c at
 
-  -- an open file takes a free place; it is on no node
+  -- an open file takes a free slot; it is on no node
   pub used-opened : (i : ℕ) (f : OpenFile) → i < length opens → slot opens i ≡ None → node_on f.target ≡ None
       → FitsNode f f.target None → IsInUse t (opened opens i f) os
   used-opened i f inside free none fitting =
@@ -248,7 +248,7 @@ used-is opens os hs away s files places n some =
     ∙ ap₂ ◌||◌ (any-files n opens) (any-homes n some os hs away)
     ∙ sym (lt-sum _ _)
 
--- ---- what is kept of places
+-- ---- what is kept of slots
 
 module _ {X : Type 0} (test other : ℕ → X → Bool) where
   pub kept-cong : (k : ℕ) (xs : List (Option X))
@@ -386,7 +386,7 @@ module _ (t : FileTree) (n : ℕ) (some : 1 ≤ holders t.holds n) where
 abbrev pub named_in : List ℕ → ℕ → ℕ
 named_in ns m = sum_by (one_at m) ns
 
--- no node is named oftener than it is held
+-- no node is named more often than it is held
 abbrev pub AreFew : List ℕ → List ℕ → Type 0
 AreFew holds ns = (m : ℕ) → named_in ns m ≤ holders holds m
 
@@ -546,7 +546,7 @@ module _ {t : FileTree} {opens : Opens} {os : Processes} (is : IsInUse t opens o
 
 -- ---- one more holds a node
 
--- a hold more counts
+-- one more hold counts
 hold-more : (holds : List ℕ) (d : ℕ) → d < length holds → (n : ℕ)
     → holders (with_hold holds d) n ≡ holders holds n + one_in n (Some d)
 hold-more holds d short n = elim (cases_eq n d) [
@@ -556,7 +556,7 @@ hold-more holds d short n = elim (cases_eq n d) [
 ]
 
 module _ {t : FileTree} {opens : Opens} {os : Processes} (is : IsInUse t opens os) where
-  -- an open file more is on node d, or a process more works there
+  -- one more open file is on node d, or one more process works there
   pub used-more : (d : ℕ) → d < length t.holds → (new : Opens) (after : Processes)
       → ((n : ℕ) → files_on new n + homes_at after n ≡ files_on opens n + homes_at os n + one_in n (Some d))
       → ((k : ℕ) → FitsIn t (slot new k)) → ((j : ℕ) → IsHome t (home_in (slot after j)))

@@ -1,4 +1,4 @@
--- The places with their spaces change and are searched as the places alone; what open files and descriptors name.
+-- Processes with their spaces change and are searched as the processes alone; what open files and descriptors name.
 use Rattle.kernel.proofs.Common.{Bool, List, None, Ok, Option, Some, [], cond, drop, false, is_none, is_some, length}
 use Rattle.kernel.proofs.Common.{map, nat_le, not, option_map, position, slice_set, suc, true, zero, ℕ, ℤ, ◌&&◌, ◌+◌}
 use Rattle.kernel.proofs.Common.{◌<◌, ◌≡◌, ◌≤◌, ◌==◌, ◌∷◌, prefix_len, ap, arith, refl, nat_tests, position-Some}
@@ -21,7 +21,7 @@ use Rattle.unixmodel.specs.OpenFiles as unix_files
 use Rattle.unixmodel.specs.Files.{free_slots}
 use Rattle.kernel.specs.Sound.{IsAwaiting, IsForBytes, IsForPipe, IsFresh, WaitsAs, file_named}
 
--- ---- one place
+-- ---- one slot
 
 pub length-joined : (os : Processes) (hs : Views) → length (joined os hs) ≡ length os
 unfolding joined
@@ -36,7 +36,7 @@ slot-joined (o ∷ os) hs zero = refl
 slot-joined (o ∷ os) [] (suc i) = slot-joined os [] i
 slot-joined (o ∷ os) (h ∷ hs) (suc i) = slot-joined os hs i
 
--- a place has another process and another space, or none
+-- a slot gets another process and another space, or none
 pub put-joined : (os : Processes) (hs : Views) (i : ℕ) (o : Option Process) (q : Option SpaceView) → i < length hs
     → slice_set (joined os hs) i (option_map (with_space (unwrap_or q no_pages)) o)
     ≡ joined (slice_set os i o) (slice_set hs i q)
@@ -47,7 +47,7 @@ put-joined (x ∷ os) (g ∷ hs) zero o q low = refl
 put-joined (x ∷ os) (g ∷ hs) (suc i) o q low =
     ap (λ ys. option_map (with_space (space_in (g ∷ hs) 0)) x ∷ ys) (put-joined os hs i o q (omega arith))
 
--- a process that keeps its space is put in its place
+-- a process that keeps its space goes back to its slot
 pub put_kept-joined : (os : Processes) (hs : Views) (i : ℕ) (p : Process)
     → put (joined os hs) i (with_space (space_in hs i) p) ≡ joined (put os i p) hs
 unfolding joined
@@ -58,7 +58,7 @@ put_kept-joined (o ∷ os) [] (suc i) p =
 put_kept-joined (o ∷ os) (h ∷ hs) (suc i) p =
     ap (λ qs. option_map (with_space (space_in (h ∷ hs) 0)) o ∷ qs) (put_kept-joined os hs i p)
 
--- ---- free places
+-- ---- free slots
 
 pub joined-free_slots : (n : ℕ) (hs : Views) → joined (free_slots n) hs ≡ free_slots n
 unfolding joined free_slots
@@ -73,7 +73,7 @@ seat_of-first last pid awake h = let fits : nat_le pid 2147483647 ≡ true = gri
 
 -- ---- a change that leaves the space as it is
 
--- the change comes to the same with a space and without
+-- the change is the same with a space and without
 abbrev pub IsSameChange : (unix.Process → unix.Process) → (Process → Process) → Type 0
 IsSameChange whole part = (h : SpaceView) (p : Process) → whole (with_space h p) ≡ with_space h (part p)
 
@@ -107,7 +107,7 @@ module _ (whole : unix.Process → unix.Process) (part : Process → Process) (s
 
 -- ---- a search
 
--- the test answers the same with a space and without
+-- the test gives the same result with a space and without
 abbrev pub IsSameTest : (unix.Process → Bool) → (Process → Bool) → Type 0
 IsSameTest whole part = (h : SpaceView) (p : Process) → whole (with_space h p) ≡ part p
 
@@ -144,7 +144,7 @@ some_that_holds : (test : Process → Bool) (o : Option Process) → holds test 
 some_that_holds test None h = cc
 some_that_holds test (Some p) h = (p, (refl, h))
 
--- the place that a search finds has a process that passes
+-- the slot that a search finds has a process that passes
 pub place_where-Some : (test : Process → Bool) (os : Processes) (i : ℕ) → place_where os test ≡ Some i
     → (p : Process) × ((slot os i ≡ Some p) × (test p ≡ true))
 place_where-Some test os i h = some_that_holds test _ (position-Some (holds test) os i None h).1
@@ -170,7 +170,7 @@ module _ (s : State) (t : Places) (hs : Views) where
       (λ b. cond b (record (with_space h p) { parent = 1 }) (with_space h p)
       ≡ with_space h (cond b (record p { parent = 1 }) p)) [ true ↦ refl | false ↦ refl ]
 
-  -- process p of place i has ended
+  -- process p of slot i has ended
   pub with_zombie-with_table : (i : ℕ) (p : Process) (status : ℤ)
       → ends.with_zombie (with_table s t hs) i (with_space (space_in hs i) p) status
       ≡ record (with_table s (table.ended t i status (Some p)) hs)
@@ -247,14 +247,14 @@ module _ (opens new : Opens) (ds : Fds)
       }
   kept-mode _ is = tt
 
--- where no open file comes that its descriptors name
+-- where no open file is added that its descriptors name
 pub waits-kept : (opens new : Opens) (o : Option Process)
     → ((d n : ℕ) (f : OpenFile) → slot (descriptors_in o) d ≡ Some n → file_at new n ≡ Some f → WasAlike opens n f)
     → WaitsWell opens o → WaitsWell new o
 waits-kept opens new None each is = tt
 waits-kept opens new (Some p) each is = kept-mode opens new _ each _ is
 
--- where no open file comes
+-- where no open file is added
 pub waits-fewer : (opens new : Opens) → ((n : ℕ) (f : OpenFile) → file_at new n ≡ Some f → file_at opens n ≡ Some f)
     → (o : Option Process) → WaitsWell opens o → WaitsWell new o
 waits-fewer opens new each o is = waits-kept opens new o (λ d n f named at. (f, (each n f at, alike-same f))) is
@@ -290,7 +290,7 @@ opened-active k files pipes (Some i) is =
     opened-put files pipes _ i _ (map-same descriptors_in (on_hart k.spaces) (λ p. refl) (slot k.table.places i))
     (hart-waits files k.spaces _ (is.waits i)) is
 
--- what holds of each place, and of the hart's process as of its table's
+-- what holds of each slot's process, and of the running one with the hart's registers
 pub active-by : (P : ℕ → Option Process → Type 0) (k : Kernel)
     → ((j : ℕ) (o : Option Process) → P j o → P j (option_map (on_hart k.spaces) o)) → (a : Option ℕ)
     → ((j : ℕ) → P j (slot k.table.places j)) → (j : ℕ) → P j (slot (changed_at k.table (on_hart k.spaces) a).places j)
@@ -320,7 +320,7 @@ count-joined (Some p ∷ os) hs n =
     ∙ ap (λ (m : ℕ). names n p.descriptors + m) (count-joined os (drop 1 hs) n)
     ∙ sym (sum_by-cons (names_in n) (Some p) os)
 
--- no more are taken than there are places
+-- no more slots are taken than there are
 pub few-taken : {X : Type 0} (xs : List (Option X)) → length (taken xs) ≤ length xs
 few-taken [] = omega arith
 few-taken (None ∷ xs) = omega (arith, few-taken xs)

@@ -143,7 +143,7 @@ module _ (k : Kernel) (i : ℕ) {size : ℕ} {h : SpaceView} (held : h ≡ sized
 
 -- ---- what was typed
 
--- of no bytes a read takes none, and leaves none
+-- a read of no bytes takes none, and leaves none
 taken-empty : (has : Bool) (n : ℕ) (bytes : List ℕ) → is_empty bytes ≡ true
     → is_empty (take_line has n bytes).rest ≡ true
 unfolding take_line
@@ -163,7 +163,7 @@ line-keeps {k} keeps has n {new = new} took = record {
 
 -- ---- pipes
 
--- a pipe that stands has other bytes
+-- an existing pipe gets other bytes
 piped-kernel : {k : Kernel} → IsKernel k → (q : ℕ) (old new : List ℕ) → slot k.spaces.pipes q ≡ Some old
     → IsKernel (record k { spaces = with_pipe k.spaces q (Some new) })
 piped-kernel {k} is q old new at = let stays =
@@ -334,7 +334,7 @@ module _ {k : Kernel} (keeps : Keeps k) {now : Kernel} (same : k ≡ now) (up : 
         go (Ok v) told refused full failed good = done v told full
         go (Err fault) told refused full failed good = unchanged (refused (device-is fault (sym failed ∙ good))).same
 
-    -- a node or a name more
+    -- one more node or name
     made-keeps : ((v : X) → Done v → Changed k.tree.files t.files) → Keeps (with_tree k t)
     made-keeps changes = names-keep
         (λ v told full. used-changed in-use t (changes v told) acts.holds full.zero full.within)

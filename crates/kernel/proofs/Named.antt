@@ -28,7 +28,7 @@ use Rattle.files.proofs.Whole.{opens-shared, set_outside, table-closed, without_
 
 -- ---- descriptors that a table counts
 
--- each open file is counted as often as these descriptors name it, or oftener
+-- each open file is counted as often as these descriptors name it, or more often
 abbrev pub AreNamed : Opens → Fds → Type 0
 AreNamed t ds = (n : ℕ) → names n ds ≤ count_at t n
 
@@ -134,7 +134,7 @@ opens-all_closed t ds n f at = go _ refl (sym (file-opens _ n) ∙ at) where
 
 -- ---- the counts of an ended process's table
 
--- what an orphan has as before
+-- an orphan has the old value
 pub orphan-same : {X : Type 0} (f : Option Process → X) (pid : ℕ)
     → ((p : Process) (parent : ℕ) → f (Some (record p { parent = parent })) ≡ f (Some p)) → (o : Option Process)
     → f (option_map (orphaned pid) o) ≡ f o
@@ -214,7 +214,7 @@ last-is (Some c) on last = elim (cases_lt 1 c.count) [
   | inr one ↦ (let same : Some c.file.target ≡ Some on = rw (le-ltb 1 c.count one) at last in (c, (refl, cc)))
 ]
 
--- the pipe of a last end stood until then
+-- a pipe exists until its last end is closed
 pub stands-last : (t : Opens) (pipes : Pipes) (n q : ℕ) (e : files_end.End) → IsPiped pipes (opens_of t)
     → last_target t n ≡ Some (target.Pipe q e) → is_some (slot pipes q) ≡ true
 stands-last t pipes n q e is last =
@@ -241,7 +241,7 @@ leaves-standing t pipes ds is =
     (λ u n h. (_, leaves-one u pipes h.0 n h.1)) t ds (pipes, (is, pipes-same pipes)) in
     rw (pipes-left (opens_of (all_closed t ds)) pipes all.0 all.1.0 all.1.1) all.1
 
--- what is known of the open files is known then
+-- what holds of the open files still holds
 pub opened-closed : {t : Opens} {pipes : Pipes} {os : Processes} → IsOpened t pipes os → (ds : Fds) (after : Processes)
     → IsCounted (all_closed t ds) after → ((j : ℕ) → WaitsWell t (slot after j))
     → IsOpened (all_closed t ds) (standing pipes (opens_of (all_closed t ds))) after
@@ -254,7 +254,7 @@ opened-closed {t} {pipes} is ds after counted waits = let leaves = leaves-standi
   waits = λ j. waits-fewer t _ (files-all_closed t ds) _ (waits j);
 }
 
--- no more pipes stand than did
+-- there are no more pipes than there were
 pub fewer-pipes : (old new : Pipes) → length new ≡ length old
     → ((q : ℕ) (bytes : List ℕ) → slot new q ≡ Some bytes → is_some (slot old q) ≡ true)
     → length (taken new) ≤ length (taken old)

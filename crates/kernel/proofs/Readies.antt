@@ -96,7 +96,7 @@ module _ (rest : Rest) (t : Places) (hs : Views) where
       ∙ place-same _ _
       ∙ sym (ap (holds (turn.is_ready a)) (slot-joined t.places [] i))
 
--- ---- one place, by the code's words
+-- ---- one slot, in the code's terms
 
 module _ (s : State) (places : Processes) where
   pub children-seen : (p : Process) (w : Pending)
@@ -111,7 +111,7 @@ module _ (s : State) (places : Processes) where
 -- ---- where none runs
 
 module _ (k : Kernel) (idle : k.spaces.active ≡ None) where
-  -- the place that the kernel's test finds has the turn
+  -- the slot that the kernel's test finds has the turn
   pub turn-idle : turn.turn (with_table (base (rest_of k)) k.table k.spaces.places) ≡ turn.turn (state_of k)
   turn-idle = ap turn.turn (sym (state-idle k idle))
 
@@ -136,7 +136,7 @@ module _ (k : Kernel) (idle : k.spaces.active ≡ None) where
         | false ↦ λ fails found. find-true f xs i found
       ]) refl is
 
-  -- the place that has the turn has a process that lives
+  -- the slot that has the turn has a process that lives
   pub turn-alive : (i : ℕ) → turn.turn (state_of k) ≡ Some i → IsAlive (slot k.table.places i)
   unfolding turn.turn
   turn-alive i found =
@@ -154,7 +154,7 @@ at_or_before : (k t : ℕ) → k ≤ t → (k ≡ t) ⊎ (k < t)
 at_or_before k t h = grind arith
 
 module _ (test : ℕ → Bool) (place : ℕ → ℕ) where
-  -- the first number from k on whose place passes
+  -- the first number from k on whose slot passes
   find_first : (n k t : ℕ) → k ≤ t → t < k + n → test (place t) ≡ true
       → ((j : ℕ) → k ≤ j → j < t → test (place j) ≡ false) → find test (map place (range_with_len k n)) ≡ Some (place t)
   find_first zero k t low high passes before = absurd (omega arith)
@@ -172,7 +172,7 @@ module _ (test : ℕ → Bool) (place : ℕ → ℕ) where
       let here : test (place k) ≡ false = none k (omega arith) (omega arith) in
       rw here (find_none n (k + 1) (λ j l h. none j (omega arith) (omega arith)))
 
--- the answers may only be those of a test
+-- if the results are those of a test, the pick is the first slot that passes it
 find-from_answers : (says : ℕ → Bool → Type 0) (test : ℕ → Bool) (last : ℕ) (result : Option ℕ)
     → Picks says last result → ((i : ℕ) (b : Bool) → says i b → b ≡ test i) → result ≡ find test (round_from last)
 unfolding round_from
@@ -187,12 +187,12 @@ find-from_answers says test last (Some i) picks same =
     ∙ sym (find_first test (place_in_round last) place_limit 1 picks.turn (omega arith) (omega arith) yes
     (λ j low high. sym (same (place_in_round last j) false (picks.before j low high))))
 
--- who is ready in the state with these places
+-- who is ready in the state with these slots
 abbrev pub ready_with : State → Places → Views → Processes → ℕ → Bool
 ready_with s t hs places i = ready (with_table s (record t { places = places }) hs) i
 
 module _ {F : Type 0} (g : Shared F (Bor Processes × (ℕ × Unit {0})) Bool) (f : F) where
-  -- what the closure answers is the test of what it is handed
+  -- the closure returns the test of its arguments
   abbrev pub IsTest : (Processes → ℕ → Bool) → Type 0
   IsTest test = (shown : Bor Processes) (i : ℕ) (b : Bool) → FnReturns g f (shown, (i, tt)) b → b ≡ test shown.now i
 
@@ -204,11 +204,11 @@ module _ {F : Type 0} (g : Shared F (Bor Processes × (ℕ × Unit {0})) Bool) (
       find-from_answers (Answers g f t.places) (ready_with s t hs t.places) _ _ picks
       (λ i b h. is h.shown i b h.says ∙ ap (λ os. ready_with s t hs os i) h.shows)
 
--- ---- what a kernel shows of its processes, in the words of its state
+-- ---- what a kernel shows of its processes, in terms of its state
 
 -- ---- a search
 
--- what the hart holds of a process is no matter of the test
+-- the test does not depend on what the hart holds of a process
 pub place-changed : (test : Process → Bool) → ((s : Spaces) (p : Process) → test (on_hart s p) ≡ test p)
     → (t : Places) (s : Spaces) (o : Option ℕ)
     → place_where (changed_at t (on_hart s) o).places test ≡ place_where t.places test
@@ -244,7 +244,7 @@ module _ (k : Kernel) where
       → shown_process (state_of k) pid ≡ option_map (with_space (view_at k.spaces i)) (slot (loaded k).places i)
   shown-at pid i found = shown-go pid _ found ∙ process-state i
 
--- what is shown of a process of a place
+-- what is shown of the process in a slot
 abbrev shown_with : SpaceView → Process → ShownProcess
 shown_with h p = record { process = p; size = h.size }
 
@@ -253,7 +253,7 @@ bare-with : (h : SpaceView) (o : Option Process)
 bare-with h None = refl
 bare-with h (Some p) = refl
 
--- over the fields: k is what they show, and now is the kernel's value; r is the place that was found
+-- in terms of the fields: k is what they show, now is the kernel's value; r is the slot that was found
 pub whole-shown : {k now : Kernel} {i : ℕ} {r : Option ℕ} {o : Option Process} (pid : ℕ) → k ≡ now
     → r ≡ place_where k.table.places (has_pid pid) → r ≡ Some i → o ≡ slot (loaded now).places i
     → option_map (shown_with (view_at k.spaces i)) o ≡ option_map shown_as (shown_process (state_of now) pid)
@@ -272,7 +272,7 @@ loaded-some k i p a is =
     (λ j e. (p, ap (slot k.table.places) e ∙ is)) i refl
 
 module _ (k : Kernel) (pid i : ℕ) (found : place_where k.table.places (has_pid pid) ≡ Some i) where
-  -- the place that is found has a space
+  -- the slot that is found has a space
   pub found-space : IsKernel k → has_space k.spaces i ≡ true
   found-space is =
       let p = place_where-Some (has_pid pid) _ i found in
@@ -321,11 +321,11 @@ pub fits-in : (k : Kernel) (o : Option Counted) (f : files.OpenFile) → Some f 
 fits-in k None f is each = absurd (cc)
 fits-in k (Some c) f is each = let same : f ≡ c.file = cc in subst (FitsFiles k.tree.files) (sym same) (each c refl)
 
--- ---- whether a kernel has anything to do, in the words of its state
+-- ---- whether a kernel has anything to do, in terms of its state
 
 -- ---- who runs
 
--- the search for the running process finds the active place
+-- the search for the running process finds the active slot
 runs-position : (os : Processes) (o : Option ℕ) → ((j : ℕ) → holds table.is_running (slot os j) ≡ is_at j o)
     → ((i : ℕ) → o ≡ Some i → i < length os) → place_where os table.is_running ≡ o
 runs-position os None runs within =

@@ -19,7 +19,7 @@ use Rattle.proc.specs.Places as table
 use Rattle.unixmodel.specs.Process as unix
 pub use Rattle.names.proofs.Finding.{slot-within}
 
--- ---- places
+-- ---- slots
 
 pub slot-put : {X : Type 0} (xs : List (Option X)) (i : ℕ) (o : Option X) → i < length xs
     → slot (slice_set xs i o) i ≡ o
@@ -29,19 +29,19 @@ pub slot-other : {X : Type 0} (xs : List (Option X)) (i j : ℕ) (o : Option X) 
     → slot (slice_set xs i o) j ≡ slot xs j
 slot-other xs i j o h = get_or-set_other xs i j o None h
 
--- what stands in a place already is put there
+-- a slot is set to what it holds already
 pub set-slot : {X : Type 0} (xs : List (Option X)) (i : ℕ) (o : Option X) → slot xs i ≡ o → slice_set xs i o ≡ xs
 set-slot xs i o is = rw (← is) (set-get_or xs i None)
 
 abbrev pub with_process : Places → ℕ → Process → Places
 with_process t i p = record t { places = put t.places i p }
 
--- a process and its space are put in place i
+-- process p and its space are put in slot i
 module _ (s : State) (t : Places) (hs : Views) (i : ℕ) (p : Process) where
   pub process-with : slot t.places i ≡ Some p → process_at (with_table s t hs) i ≡ Some (with_space (space_in hs i) p)
   process-with is = slot-joined t.places hs i ∙ ap (option_map (with_space (space_in hs i))) is
 
-  -- a process is put in place i, and its space stays
+  -- a process is put in slot i, and its space stays
   pub put-same : {h : SpaceView} → slot hs i ≡ Some h
       → with_table s (with_process t i p) hs ≡ put_process (with_table s t hs) i (with_space h p)
   put-same space =
@@ -66,7 +66,7 @@ running-process : (o : Option Process) → holds table.is_running o ≡ true
 running-process None runs = absurd (cc)
 running-process (Some p) runs = (p, (refl, running-mode _ runs))
 
--- a place with a process has a space, which fits it
+-- a slot with a process has a space, which fits it
 pub space-of : (o : Option Process) (q : Option SpaceView) (p : Process) → o ≡ Some p → IsPlace o q
     → (h : SpaceView) × ((q ≡ Some h) × IsPlaced p h)
 space-of None q p at is = absurd (none-some p at)
@@ -77,7 +77,7 @@ pub place-space : (o : Option Process) (q : Option SpaceView) (p : Process) → 
     → is_some q ≡ true
 place-space o q p at is = ap is_some (space-of o q p at is).1.0
 
--- the active place has the running process
+-- the active slot has the running process
 pub run-of : (k : Kernel) (i : ℕ) → IsKernel k → k.spaces.active ≡ Some i
     → (p : Process) × ((h : SpaceView) × IsRun k i p h)
 run-of k i is active =
@@ -86,7 +86,7 @@ run-of k i is active =
     let h = space-of _ _ p.0 p.1.0 (is.stands i) in
     (p.0, (h.0, record { active = active; process = p.1.0; space = h.1.0; placed = h.1.1; runs = p.1.1 }))
 
--- over the fields: k is what they show, and now is the kernel's value
+-- in terms of the fields: k is what they show, now is the kernel's value
 pub active-space : {k now : Kernel} {i : ℕ} → k ≡ now → IsKernel k → now.spaces.active ≡ Some i
     → has_space k.spaces i ≡ true
 active-space {k} {now} {i} same is active = ap is_some (run-of k i is (rw (← same) at active)).1.1.space
@@ -96,7 +96,7 @@ pub state-idle : (k : Kernel) → k.spaces.active ≡ None
     → state_of k ≡ with_table (base (rest_of k)) k.table k.spaces.places
 state-idle k idle = rw idle refl
 
--- process p stands in place i with its space
+-- slot i has process p with space h
 pub record IsThere (k : Kernel) (i : ℕ) (p : Process) (h : SpaceView) : Type 0 where
   pub process : slot k.table.places i ≡ Some p
   pub space : slot k.spaces.places i ≡ Some h
@@ -147,14 +147,14 @@ home-living p alive = ap (λ (b : Bool). if b then None else Some p.directory) (
 
 -- ---- the running process alone changes
 
--- it is p now, but for its registers and its pc, and its space shows h
+-- it is p now, except for its registers and its pc, and its space shows h
 abbrev pub moved : Kernel → ℕ → Process → SpaceView → List ℕ → ℕ → Kernel
 moved k i p h registers pc = record k {
   table = with_process k.table i p;
   spaces = record k.spaces { places = slice_set k.spaces.places i (Some h); registers = registers; pc = pc };
 }
 
--- where a place has another process and another space
+-- a slot gets another process and another space
 pub stands-set : (os : Processes) (hs : Views) (i : ℕ) (o : Option Process) (q : Option SpaceView) → i < length os
     → i < length hs → IsPlace o q
     → ((j : ℕ) → IsPlace (slot os j) (slot hs j)) → (j : ℕ)
@@ -164,7 +164,7 @@ stands-set os hs i o q short low is stands j = elim (cases_eq j i) [
   | inr other ↦ rw (slot-other os i j o other, slot-other hs i j q other) (stands j)
 ]
 
--- where another place runs
+-- another slot runs
 pub runs-set : (os : Processes) (i : ℕ) (o : Option Process) (before after : Option ℕ) → i < length os
     → holds table.is_running o ≡ is_at i after
     → ((j : ℕ) → j ≢ i → is_at j after ≡ is_at j before)
@@ -205,7 +205,7 @@ module _ (k : Kernel) (i : ℕ) (p : Process) (h : SpaceView) (r : IsRun k i p h
           is.opened;
     }
 
-    -- that is what the abstract Unix puts in its place
+    -- this is the process that the abstract Unix puts in slot i
     pub moved-state : state_of (moved k i p' h' registers pc)
         ≡ put_process (state_of k) i (with_space h' (record p' { registers = registers; pc = pc }))
     moved-state =
@@ -231,7 +231,7 @@ pub runs-mode : (p : Process) (memory : Memory) (mode : Mode) → mode ≡ Runni
     → IsMode p memory mode
 runs-mode p memory mode e l n = rw e (l, n)
 
--- a process that was put in a place is changed
+-- a process that was put in a slot is changed
 pub change-put : (i : ℕ) (s : State) (p : unix.Process) (change : unix.Process → unix.Process) → i < length s.places
     → change_process (put_process s i p) i change ≡ put_process s i (change p)
 change-put i s p change short =
@@ -290,7 +290,7 @@ module _ (k : Kernel) (i : ℕ) (p : Process) (h : SpaceView) (r : IsRun k i p h
 
 -- ---- processes and spaces
 
--- a place has a process exactly where it has a space
+-- a slot has a process exactly where it has a space
 abbrev pub IsMatch : Option Process → Option SpaceView → Type 0
 IsMatch o q = is_some o ≡ is_some q
 

@@ -174,7 +174,7 @@ advances-on stops (suc n) k i new is active all =
     let last = advances-last stops n _ new i all in
     does-on k i _ new (advances-on stops n k i last.0 is active last.1) last.2
 
--- one does, or stops at a trap; o is the active place
+-- an instruction is done, or stops at a trap; o is the active slot
 pub execute-on : (k : Kernel) (i : ℕ) (new : Spaces) (o : Option ℕ) (result : Option Trap) → IsKernel k
     → k.spaces.active ≡ Some i → o ≡ Some i → taken_frames new ≤ new.frames
     → IfNone result (IfSome o
@@ -201,7 +201,7 @@ on-keeps {k} keeps on = record {
       (sym on.pipes) keeps.watched;
 }
 
--- ---- what steps that reach the disk come to, one after the other
+-- ---- what consecutive steps that reach the disk leave
 
 -- what a step that may fail leaves
 pub serves-disk : {T : Type 0} {old new : FileTree} {r : Result T DeviceFault} {Told : T → Type 0}
@@ -231,19 +231,19 @@ lost-then first lost = record {
       first.later in omega (arith, rises, later);
 }
 
--- more is told
+-- a weaker condition on the result
 pub reads-as : {X : Type 0} (old new : Kernel) {Told Says : X → Type 0} → ((x : X) → Told x → Says x)
     → (r : Result X DeviceFault) → ReadsDisk old new Told r → ReadsDisk old new Says r
 reads-as old new says (Ok x) reads = (reads.0, says x reads.1)
 reads-as old new says (Err fault) lost = lost
 
--- it failed
+-- the step failed
 pub lost-reads : {X : Type 0} (old new : Kernel) (Told : X → Type 0) (r : Result X DeviceFault) → IsErr r
     → IsLost old.tree new.tree → ReadsDisk old new Told r
 lost-reads old new Told (Ok x) e lost = absurd (cc)
 lost-reads old new Told (Err fault) e lost = lost
 
--- what is told then, also over a tree that the device can't tell from the old one
+-- a weaker condition on the result, also over another tree with the same device and the same count of failures
 pub serves-as : {T : Type 0} {old other t : FileTree} {r : Result T DeviceFault} {P Q : T → Type 0}
     → old.identity ≡ other.identity → old.failures ≡ other.failures → ((x : T) → P x → Q x) → Serves old t r P
     → Serves other t r Q
@@ -352,7 +352,7 @@ last-go k i q None is active can at =
 abbrev pub finished : Kernel → ℕ → Process → ℤ → Kernel
 finished k i q status = record (ended_of k i status q) { table = exited (with_process k.table i q) i status }
 
--- the count of the device's failures says nothing of the rest
+-- the count of the device's failures has no part in the rest
 pub counting-kernel : (k : Kernel) (failures : ℕ) → IsKernel k → IsKernel (counting k failures)
 counting-kernel k failures is = with-tree is _ (λ up.
     let used = is.used up in
@@ -366,14 +366,14 @@ counting-kernel k failures is = with-tree is _ (λ up.
       homes = used.homes;
     })
 
--- a step of the disk that tells this tree, or fails
+-- a step of the disk that leaves this tree, or fails
 pub told-kernel : {k : Kernel} → IsKernel k → (t : FileTree) (r : Result (Unit {0}) DeviceFault)
     → IfOk r (λ done. t ≡ counted k.tree t.failures) → OnErr r (t.failed ≡ true) → IsKernel (record k { tree = t })
 told-kernel {k} is t (Ok done) told down =
     subst (λ (u : FileTree). IsKernel (record k { tree = u })) (sym told) (counting-kernel k _ is)
 told-kernel is t (Err fault) told down = fail-kernel is t down
 
--- over the fields: k is what they show, and now is the kernel's value
+-- in terms of the fields: k is what they show, now is the kernel's value
 module _ {k now : Kernel} {i : ℕ} {q : Process} (status : ℤ) (same : k ≡ now) (is : IsKernel now) (can : CanEnd now i)
     (said : Some q ≡ slot (loaded now).places i) where
   last : (h : SpaceView) × IsLast now i q h
@@ -409,7 +409,7 @@ module _ {k now : Kernel} {i : ℕ} {q : Process} (status : ℤ) (same : k ≡ n
       ∙ ap (λ n. waking (counting (ended now i n) t.failures) awake) e)
       serves
 
--- what many do, and where they stop, of the active place
+-- how many instructions are done, and where they stop; o is the active slot
 pub advances-at : (stops : List ℕ) (o : Option ℕ) (i n : ℕ) (old new : Spaces) → o ≡ Some i
     → IfSome o (λ at. Advances stops n old at new) → Advances stops n old i new
 advances-at stops o i n old new active all =

@@ -134,7 +134,7 @@ module _ {k : Kernel} {i : ℕ} (x : Runner k i) (ds : Fds) (directory : ℕ)
         { files = tree.files; block_limit = tree.block_limit; opens = opens_of files; pipes = pipes })
         (moved-state k i _ _ x.run x.sound q _ _ _ named-placed x.run.runs)
 
--- ---- a descriptor more of the running process names an open file
+-- ---- one more descriptor of the running process names an open file
 
 module _ {k : Kernel} {i : ℕ} (x : Runner k i) where
   pub descriptors-run : descriptors_at k i ≡ x.process.descriptors
@@ -144,7 +144,7 @@ module _ {k : Kernel} {i : ℕ} (x : Runner k i) where
   pub named-counts : (d n : ℕ) → slot x.process.descriptors d ≡ Some n → 0 < count_at k.files n
   named-counts d n at = place-counts _ _ x.sound.opened.counted i _ x.run.process d n at
 
-  -- how often an open file is named once process q stands in place i
+  -- how often an open file is named once process q is in slot i
   pub named-put : (q : Process) (m : ℕ)
       → named_by (put k.table.places i q) m + names m x.process.descriptors
       ≡ named_by k.table.places m + names m q.descriptors
@@ -253,7 +253,7 @@ hold-few {k} is up n =
     let homes : homes_at k.table.places n ≤ length k.table.places = count_by-le-length (λ o. is_same n (home_in o)) _ in
     omega (arith, (is.used up).holds n, files, homes, is.opened.table.all, is.all)
 
--- ---- f takes a place, and a descriptor names it
+-- ---- f takes a slot, and a descriptor names it
 
 module _ {k : Kernel} {i : ℕ} (x : Runner k i) (f : OpenFile) (place fd : ℕ) where
   abbrev files : Opens
@@ -289,7 +289,7 @@ module _ {k : Kernel} {i : ℕ} (x : Runner k i) (f : OpenFile) (place fd : ℕ)
     place-free : (place < length k.files) × (slot k.files place ≡ None)
     place-free = free-place _ place (sym (free_slot-opens k.files) ∙ first)
 
-    -- each open file but the new one was there
+    -- each open file except the new one was there
     each : IsOpenFile (file_of f) → (m : ℕ) (g : unix_files.OpenFile) → slot (opens_of files) m ≡ Some g → IsOpenFile g
     each means = subst (λ os. (m : ℕ) (g : unix_files.OpenFile) → slot os m ≡ Some g → IsOpenFile g) (sym opens-is)
         (all-set (λ m o. (g : unix_files.OpenFile) → o ≡ Some g → IsOpenFile g) _ place _
@@ -372,7 +372,7 @@ open-keeps {k} {i} {n} {fd} {f} keeps may whole opens = rw (opens.names, opens.o
 
 -- ---- the running process opens both ends of a new pipe
 
--- an end comes of a pipe that is put in its place
+-- an end of a pipe is opened as the pipe is put in its slot
 end-comes : (pipes : Pipes) (opens : List (Option unix_files.OpenFile)) (q k : ℕ) (e : End) (bytes : List ℕ)
     → IsPiped pipes opens → q < length pipes → k < length opens → slot opens k ≡ None
     → IsPiped (put pipes q bytes) (put opens k (pipe_end q e))
@@ -464,7 +464,7 @@ module _ {t t1 : Places} {opens opens1 : Opens} {i : ℕ} {f : OpenFile} {fd : �
   opens-one : opens_of opens1 ≡ put (opens_of opens) one.number (file_of f)
   opens-one = ap opens_of one.opens ∙ opens-opened opens _ f
 
-  -- and a place and a descriptor are left
+  -- and a slot and a descriptor are left
   pub place-left : 2 ≤ free_count opens → 0 < free_count opens1
   place-left two =
       let there = free-place (opens_of opens) one.number one.place in

@@ -30,7 +30,7 @@ use Rattle.proc.specs.Mask.{all_in}
 -- ---- those who pass are woken
 
 module _ (test : Process → Bool) where
-  -- who isn't awake then was not, and does not pass
+  -- who isn't awake after was not before, and does not pass
   pub roused-out : (os : Processes) (bs : List Bool) (j : ℕ) → is_in (roused test os bs) j ≡ false
       → (holds test (slot os j) ≡ false) × (is_in bs j ≡ false)
   unfolding roused
@@ -59,7 +59,7 @@ module _ (test : Process → Bool) where
   unroused-one (o ∷ os) (b ∷ bs) (suc i) low fails =
       ap (λ xs. (holds test o || b) ∷ xs) (unroused-one os bs i (omega arith) fails)
 
-  -- one more place was looked at
+  -- one more slot was looked at
   pub roused-more : (os : Processes) (bs : List Bool) (i : ℕ) → i < length os → holds test (slot os i) ≡ true
       → slice_set (roused test (take i os) bs) i true ≡ roused test (take (i + 1) os) bs
   roused-more os bs i low passes = rw add-one (sym (roused-one os bs i low passes))
@@ -71,7 +71,7 @@ module _ (test : Process → Bool) where
 -- ---- searches
 
 module _ (test : Process → Bool) where
-  -- where one place has another process, that passes only if the old one did, nothing more is found
+  -- a slot gets another process, which passes only if the old one did: nothing more is found
   any-put : (os : Processes) (i : ℕ) (o : Option Process) → (holds test o ≡ true → holds test (slot os i) ≡ true)
       → list_any (holds test) os ≡ false → list_any (holds test) (slice_set os i o) ≡ false
   any-put [] i o here none = none
@@ -124,17 +124,17 @@ o-wakes : (a : State) (os : Processes) (o : Option Process) → holds table.is_r
 o-wakes a os None runs is = absurd (cc)
 o-wakes a os (Some p) runs is = runs-wakes a os p _ runs is
 
--- where all places are awake nobody sleeps
+-- where all slots are awake nobody sleeps
 pub watched-all : {a : State} {os : Processes} (n : ℕ) → IsWatched a os (all_in n)
 watched-all n = record { asleep = λ j out. absurd (true≢false (sym (all-in n j) ∙ out)) }
 
--- ---- what a pending call looks at
+-- ---- what a pending call reads
 
 -- a test of what an open file is on, whatever its offset
 abbrev pub IsOfKind : (Target → Bool) → Type 0
 IsOfKind test = (offset : ℕ) (t : file.Target) → test (target_of (moved_to offset t)) ≡ test (target_of t)
 
--- two states with the same pipes, ends and console, whose open files answer alike to such tests
+-- two states with the same pipes, ends and console, whose open files give the same results to such tests
 module _ (s r : State) (pipes : s.pipes ≡ r.pipes) (console : s.console ≡ r.console)
     (ends : (q : ℕ) (end : End) → has_end s q end ≡ has_end r q end)
     (files : (test : Target → Bool) → IsOfKind test → (o : Option ℕ)
@@ -198,7 +198,7 @@ module _ (a a' : State) (os os' : Processes) where
   still goes None is = tt
   still goes (Some p) is = as-still p p refl _ (λ w at. goes p w _) is
 
--- ---- one place has another process
+-- ---- a slot gets another process
 
 put-still : (a : State) (os os' : Processes)
     → ((pid : ℕ) → is_some (place_where os (is_zombie_child_of pid)) ≡ false
@@ -237,7 +237,7 @@ module _ {a : State} {os : Processes} {awake : List Bool} (watched : IsWatched a
         (sym (found-any (holds (is_zombie_child_of pid)) os) ∙ none)) (slot os j) (watched.asleep j out));
   }
 
-  -- a process that runs is awake, and may become any other one but a zombie
+  -- a process that runs is awake, and may become any other one except a zombie
   pub watched-running : (i : ℕ) (f : Process → Process) → holds table.is_running (slot os i) ≡ true → MakesNoZombie f
       → IsWatched a (slice_set os i (option_map f (slot os i))) awake
   watched-running i f runs zombies =
@@ -389,7 +389,7 @@ ended-still a os os' pid (Some p) out is =
 abbrev left_by : Processes → ℕ → Process → ℤ → Processes
 left_by os i q status = put (map (option_map (orphaned q.pid)) (put os i q)) i (zombie_of q status)
 
--- what was in its place is no matter
+-- the process that was in slot i has no part in it
 left-is : (os : Processes) (i : ℕ) (q : Process) (status : ℤ)
     → left_by os i q status ≡ put (map (option_map (orphaned q.pid)) os) i (zombie_of q status)
 left-is [] i q status = refl
@@ -412,8 +412,8 @@ module _ {a : State} {os : Processes} {awake : List Bool} (watched : IsWatched a
   watched-ended = rw (left-is os i q status)
       (record { asleep = λ j out. let o = roused-out (waits_on Children) left awake j out in each j o.1 o.0 })
 
--- ---- who waits on a channel is woken, one after the other: who doesn't wait for what a channel tells doesn't wait on
--- the channel
+-- ---- who waits on a channel is woken, one after the other: who doesn't wait for the channel's kind of event doesn't
+-- wait on the channel
 
 call-silent : (channel : Channel) (w : Pending) (number : Call) → call_waits (kind_of channel) number ≡ false
     → waits_in channel w number ≡ false
@@ -435,9 +435,9 @@ silent : (channel : Channel) (o : Option Process) → holds (waits_so (kind_of c
 silent channel None no' = refl
 silent channel (Some p) no' = mode-silent _ _ no'
 
--- ---- places that are passed over
+-- ---- slots that are passed over
 
--- d places, of which none passes
+-- d slots, of which none passes
 roused-up : (test : Process → Bool) (os : Processes) (bs : List Bool) (d from to : ℕ) → to ≡ from + d → to ≤ length os
     → ((j : ℕ) → from ≤ j → j < to → holds test (slot os j) ≡ false)
     → roused test (take from os) bs ≡ roused test (take to os) bs
@@ -453,7 +453,7 @@ module _ (channel : Channel) (t : Places) where
   abbrev with_awake : List Bool → Places
   with_awake awake = record t { awake = awake }
 
-  -- those in the places so far are
+  -- those in the first n slots are awake
   abbrev pub Roused : ℕ → Places → Type 0
   Roused from now = now ≡ record t { awake = roused (waits_on channel) (take from t.places) t.awake }
 
@@ -494,7 +494,7 @@ module _ (channel : Channel) (t : Places) where
       ∙ ap (λ (os : Processes). with_awake (roused (waits_on channel) os t.awake))
       (take_all 64 t.places (omega arith))
 
--- ---- the mask says nothing of the rest
+-- ---- the mask has no part in the rest
 
 pub state-waking : (k : Kernel) (awake : List Bool) → state_of (waking k awake) ≡ state_of k
 state-waking k awake = go _ where
@@ -515,7 +515,7 @@ kernel-waking is awake =
       used = is.used;
     }
 
--- a kernel that is one but for its mask
+-- a kernel that differs in its mask alone
 pub state-but : {new : Kernel} (k : Kernel) → new ≡ waking k new.table.awake → state_of new ≡ state_of k
 state-but {new} k same = ap state_of same ∙ state-waking k _
 
@@ -598,7 +598,7 @@ module _ {F : Type 0} (g : Shared F (Bor Processes × (ℕ × Unit {0})) Bool) (
 
 -- ---- the end of a process
 
--- the place of process q, which is put in place i, wakes its parent; what it closes wakes who reads and writes
+-- the exit of process q, which is put in slot i, wakes its parent; what it closes wakes readers and writers
 pub finish-watched : {a : State} (t : Places) → IsWatched a t.places t.awake → (i : ℕ) (q : Process) (status : ℤ)
     → i < length t.places → (a' : State) → a'.ticks ≡ a.ticks
     → (new : Places) → new ≡ exited (record t { places = put t.places i q }) i status

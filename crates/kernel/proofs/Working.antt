@@ -42,7 +42,7 @@ use Rattle.kernel.specs.Opening.{HasClosed, MayClose, closed_at, MayMove}
 
 -- ---- who holds what
 
--- a place more behind the others
+-- one more slot at the end
 homes-more : (os : Processes) (o : Option Process) (n : ℕ)
     → homes_at (os ++ o ∷ []) n ≡ homes_at os n + one_in n (home_in o)
 homes-more os o n = omega
@@ -142,7 +142,7 @@ module _ {k : Kernel} {i : ℕ} (x : Runner k i) (n : ℕ) (may : MayWorkIn k i 
       (opened-put _ _ _ i _ (sym (ap descriptors_in x.run.process)) (waits-running k.files q x.run.runs) x.sound.opened)
       x.sound.fits
 
-  -- what it leaves, and nothing holds any more, goes
+  -- the directory that it leaves goes, if nothing holds it any more
   pub work-reaps : reap (put_process (state_of k) i (record (me_of x) { directory = n })) ≡ state_of (working_in k i n)
   unfolding reap
   work-reaps =
@@ -182,7 +182,7 @@ work-serves k i n = serves-as refl refl
 
 -- ---- a descriptor of the running process is closed
 
--- the pipe of a last end goes, and the others stand
+-- the pipe of a last end goes, and the others remain
 close-standing : (k : Kernel) → IsKernel k → (n : ℕ)
     → after_close k.spaces.pipes (opens_of (closed k.files n)) (last_target k.files n)
     ≡ standing k.spaces.pipes (opens_of (closed k.files n))
@@ -288,9 +288,9 @@ close-keeps {k} {i} {fd} {n} keeps may t r serves = record {
       (running-at keeps.sound i may.running) (λ p pid is. is)) _ refl;
 }
 
--- ---- a zombie child is waited for
+-- ---- a zombie child is collected
 
--- ---- a place is cleared
+-- ---- a slot is cleared
 
 ended-mode : (p : Process) (memory : Memory) (mode : Mode) → is_zombie_mode mode ≡ true → IsMode p memory mode
     → IsEnded p
@@ -306,7 +306,7 @@ zombie-rests : (mode : Mode) → is_zombie_mode mode ≡ true → is_running_mod
 zombie-rests Running zombie = absurd (cc)
 zombie-rests _ zombie = refl
 
--- the process in place j has ended
+-- the process in slot j has ended
 pub record IsZombie (k : Kernel) (j : ℕ) (child : Process) : Type 0 where
   pub at : slot k.table.places j ≡ Some child
   pub ended : is_zombie_mode child.mode ≡ true
@@ -374,7 +374,7 @@ collected-state {k} {i} x j child z apart =
 
 -- ---- the step
 
--- a place that becomes free, where there is one
+-- a slot that becomes free, where there is one
 pub watched-without : {a : State} (t : Places) → IsWatched a t.places t.awake → (o : Option ℕ)
     → IsWatched a (without t o).places (without t o).awake
 watched-without t watched None = watched
@@ -434,7 +434,7 @@ moved-open : (offset : ℕ) (f : OpenFile) → IsOpenFile (file_of f) → (t : T
 moved-open offset f is (target.File number old) on = tt
 moved-open offset f is _ on = subst (λ (t : Target). IsOpenFile (file_of (record f { target = t }))) on is
 
--- the open file of a place, if it has one, is one that may be
+-- the open file of a slot, if it has one, is one that may be
 abbrev Means : Option Counted → Type 0
 Means o = (f : unix.OpenFile) → option_map file_of (option_map (λ (c : Counted). c.file) o) ≡ Some f → IsOpenFile f
 

@@ -16,7 +16,7 @@ descriptors_in (Some p) = p.descriptors
 
 -- ---- counts
 
--- how many descriptors of a place name open file n
+-- how many descriptors of a slot's process name open file n
 abbrev pub names_in : ℕ → Option Process → ℕ
 names_in n o = names n (descriptors_in o)
 

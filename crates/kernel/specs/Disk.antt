@@ -1,4 +1,4 @@
--- What the kernel's steps on the files of its disk come to.
+-- What the kernel's steps on the files of its disk leave.
 use Rattle.std.specs.Prelude.{Err, None, Ok, Option, Result, Some, false, true, ℕ, ◌≡◌, ◌≤◌}
 use Rattle.blockdev.specs.declared.DeviceFault.{DeviceFault}
 use Rattle.kernel.specs.Kernel.{Kernel, counting}
@@ -22,7 +22,7 @@ pub record IsLost (old new : FileTree) : Type 0 where
   pub later : old.failures ≤ new.failures
   pub rises : Rises old.failures new.failures
 
--- what a part of an event that is answered so leaves of the files of the disk
+-- what a part of an event with this result leaves of the files of the disk
 abbrev pub LeavesDisk : {X : Type 0} → FileTree → FileTree → Result X DeviceFault → Type 0
 LeavesDisk old new (Ok x) = IsServed old new
 LeavesDisk old new (Err fault) = IsLost old new
@@ -37,12 +37,12 @@ directory_at k i = directory_in (slot k.table.places i)
 
 -- ---- steps that read the disk and change nothing else
 
--- the kernel is as it was, but for the count of the device's failures
+-- the old kernel, except for the count of the device's failures
 pub record HasRead (old new : Kernel) : Type 0 where
   pub same : new ≡ counting old new.tree.failures
   pub later : old.tree.failures ≤ new.tree.failures
 
--- what such a step is answered with
+-- what a step that reads the disk leaves, and what holds of its result
 abbrev pub ReadsDisk : {X : Type 0} → Kernel → Kernel → (X → Type 0) → Result X DeviceFault → Type 0
 ReadsDisk old new Told (Ok x) = HasRead old new × Told x
 ReadsDisk old new Told (Err fault) = IsLost old.tree new.tree
@@ -57,7 +57,7 @@ pub record HasFiled (old new : Kernel) (files : Files) : Type 0 where
   pub same : new ≡ with_tree old (record old.tree { files = files; failures = new.tree.failures })
   pub later : old.tree.failures ≤ new.tree.failures
 
--- what such a step is answered with
+-- what a step that changes the files leaves
 abbrev pub FilesDisk : {X : Type 0} → Kernel → Kernel → Files → Result X DeviceFault → Type 0
 FilesDisk old new files (Ok x) = HasFiled old new files
 FilesDisk old new files (Err fault) = IsLost old.tree new.tree

@@ -84,7 +84,7 @@ abbrev pub all_dropped : FileTree → List ℕ → FileTree
 all_dropped t [] = t
 all_dropped t (n ∷ ns) = all_dropped (dropped t n) ns
 
--- the same, but for the count of the device's failures
+-- the same, except for the count of the device's failures
 abbrev pub HasDropped : FileTree → FileTree → List ℕ → Type 0
 HasDropped old new ns = new ≡ record (all_dropped old ns) { failures = new.failures }
 

@@ -1,4 +1,4 @@
--- A kernel of many processes, as plain values, and the state of the abstract Unix that it stands for.
+-- A kernel of many processes, as plain values, and the state of the abstract Unix that it represents.
 use Rattle.std.specs.Prelude.{Bool, List, None, Ok, Option, Some, [], if◌then◌else◌, not, slice_index, slice_set, ℕ, ℤ}
 use Rattle.std.specs.Prelude.{◌%◌, ◌+◌, ◌++◌, ◌==◌, ◌^◌, ◌∷◌, ◌≡◌}
 use Rattle.kernel.specs.Descriptors.{all_closed, descriptors_in, standing}
@@ -26,7 +26,7 @@ pub record Kernel : Type 0 where
   pub tree : FileTree
   pub table : Places
   pub spaces : Spaces
-  -- 100 places, each free or with an open file and how many descriptors name it
+  -- 100 slots, each free or with an open file and the number of descriptors that name it
   pub files : List (Option Counted)
   pub console : Console
   -- modulo 2^32
@@ -38,11 +38,11 @@ pub record Kernel : Type 0 where
 abbrev pub counting : Kernel → ℕ → Kernel
 counting k failures = record k { tree = record k.tree { failures = failures } }
 
--- other places are awake
+-- another mask of awake slots
 abbrev pub waking : Kernel → List Bool → Kernel
 waking k awake = record k { table = record k.table { awake = awake } }
 
--- a kernel over processes, their spaces and their open files, as it begins
+-- the first state of a kernel over processes, their spaces and their open files
 abbrev pub begun : FileTree → Places → Spaces → List (Option Counted) → Kernel
 begun tree t s files = record {
   tree = tree;
@@ -60,7 +60,7 @@ begun tree t s files = record {
 abbrev pub on_hart : Spaces → Process → Process
 on_hart s p = record p { registers = s.registers; pc = s.pc }
 
--- the table in which the process of the active place has what the hart holds
+-- the table in which the process of the active slot has what the hart holds
 abbrev pub loaded : Kernel → Places
 loaded k = changed_at k.table (on_hart k.spaces) k.spaces.active
 
@@ -91,7 +91,7 @@ rest_of k = record {
   halted = k.halted;
 }
 
--- the state but for the table
+-- the state except for the table
 abbrev pub base : Rest → State
 base rest = record {
   places = [];
@@ -107,14 +107,14 @@ base rest = record {
   halted = rest.halted;
 }
 
--- the state with these places and spaces
+-- the state with these slots and spaces
 abbrev pub state_with : Places → List (Option SpaceView) → Rest → State
 state_with t hs rest = with_table (base rest) t hs
 
 abbrev pub state_of : Kernel → State
 state_of k = state_with (loaded k) k.spaces.places (rest_of k)
 
--- ---- what calls do to the running process, in place i
+-- ---- what calls do to the running process, in slot i
 
 -- the descriptors of process i
 abbrev pub descriptors_at : Kernel → ℕ → List (Option ℕ)
@@ -124,15 +124,15 @@ descriptors_at k i = descriptors_in (slot k.table.places i)
 abbrev pub argument : Kernel → ℕ → ℕ
 argument k n = slice_index k.spaces.registers (10 + n)
 
--- the pc goes on by 4 as a call begins
+-- a call begins: the pc advances by 4
 abbrev pub entered : Kernel → Kernel
 entered k = record k { spaces = record k.spaces { pc = plus k.spaces.pc 4 } }
 
--- an answer stands in a0
+-- a0 holds the call's result
 abbrev pub answered : Kernel → ℕ → Kernel
 answered k value = record k { spaces = record k.spaces { registers = slice_set k.spaces.registers 10 value } }
 
--- after an instruction
+-- the kernel after an instruction
 abbrev pub computed : Kernel → ℕ → Computed → Kernel
 computed k i d = record k { spaces = spaces.computed k.spaces i d }
 
@@ -151,7 +151,7 @@ typed k c = record k { console = c }
 abbrev pub idle : Spaces → Spaces
 idle s = record s { active = None }
 
--- the process of a place is in that mode, with what the hart held
+-- the process of slot i is in that mode, with what the hart held
 abbrev pub left_in : Places → Spaces → ℕ → Mode → Places
 left_in t s i mode = changed t i (λ p. with_mode mode (on_hart s p))
 
@@ -187,7 +187,7 @@ started_as k i (Some p) = record k {
 abbrev pub started : Kernel → ℕ → Kernel
 started k i = started_as k i (slot k.table.places i)
 
--- place i is the one that was picked last
+-- slot i is the one that was picked last
 abbrev pub picked : Kernel → ℕ → Kernel
 picked k i = record k { table = with_last k.table i }
 
@@ -221,7 +221,7 @@ ended k i status = record k {
   halted = halted_by (slot k.table.places i) status k.halted;
 }
 
--- the same, and who may wait for it is awake
+-- the same, and whoever may wait for it is awake
 abbrev pub HasEnded : Kernel → Kernel → ℕ → ℤ → Type 0
 HasEnded old new i status = new ≡ waking (counting (ended old i status) new.tree.failures) new.table.awake
 

@@ -1,4 +1,4 @@
--- What the kernel's steps make of the memory of the running process.
+-- What the kernel's steps do to the memory of the running process.
 use Rattle.std.specs.Prelude.{List, ℕ}
 use Rattle.kernel.specs.Kernel.{Kernel}
 use Rattle.spaces.specs.Spaces.{SpaceView, put_behind, read_at, taken_to, view_at, with_view, written}
@@ -9,15 +9,15 @@ use Rattle.unixmodel.specs.ProcessCalls.{with_pages}
 abbrev pub reheld : Kernel → ℕ → SpaceView → Kernel
 reheld k i h = record k { spaces = with_view k.spaces i h }
 
--- these bytes stand in the memory of process i from an address on
+-- these bytes are written to the memory of process i, from an address on
 abbrev pub wrote : Kernel → ℕ → ℕ → List ℕ → Kernel
 wrote k i address bytes = reheld k i (written (view_at k.spaces i) address bytes)
 
--- process i takes bytes of pipe q to an address, so many at the most
+-- process i moves at most `count` bytes of pipe q to an address
 abbrev pub drew : Kernel → ℕ → ℕ → ℕ → ℕ → Kernel
 drew k i q address count = record k { spaces = taken_to k.spaces q i address count }
 
--- process i puts bytes from an address on into pipe q, so many at the most, and as many as fit
+-- process i appends at most `count` bytes from an address on to pipe q, as many as fit
 abbrev pub sent : Kernel → ℕ → ℕ → ℕ → ℕ → Kernel
 sent k i q address count = record k { spaces = put_behind k.spaces q (read_at (view_at k.spaces i) address count) }
 

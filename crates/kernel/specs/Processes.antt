@@ -1,4 +1,4 @@
--- What the kernel's steps make of the running process, and of others.
+-- What the kernel's steps do to the running process, and to others.
 use Rattle.std.specs.Prelude.{Bool, None, Ok, Option, Some, false, option_map, slice_set, true, ℕ, ◌<◌, ◌≡◌, ◌≤◌}
 use Rattle.kernel.specs.Descriptors.{all_shared}
 use Rattle.kernel.specs.Holding.{IsFolder, all_dropped, listed}
@@ -13,13 +13,13 @@ use Rattle.unixmodel.specs.Files.{slot}
 
 -- ---- where it works
 
--- the running process, in place i, may work in directory n; no access of the device has failed
+-- the running process, in slot i, may work in directory n; no access of the device has failed
 pub record MayWorkIn (k : Kernel) (i n : ℕ) : Type 0 where
   pub running : k.spaces.active ≡ Some i
   pub folder : IsFolder (slot k.tree.files n)
   pub up : k.tree.failed ≡ false
 
--- the directory of the process in place i
+-- the directory of the process in slot i
 abbrev pub home_at : Kernel → ℕ → Option ℕ
 home_at k i = option_map (λ (p : Process). p.directory) (slot k.table.places i)
 
@@ -30,14 +30,13 @@ working_in k i n = record k {
   table = changed k.table i (with_directory n);
 }
 
--- the same, but for the count of the device's failures
+-- the same, except for the count of the device's failures
 abbrev pub WorksIn : Kernel → Kernel → ℕ → ℕ → Type 0
 WorksIn old new i n = new ≡ counting (working_in old i n) new.tree.failures
 
 -- ---- fork
 
--- the running process, in place i, may have a child in a seat, which is the next one; no access of the device has
--- failed
+-- the running process, in slot i, may have a child in a seat, which is the next one; no access of the device has failed
 pub record MayFork (k : Kernel) (i : ℕ) (seat : Seat) : Type 0 where
   pub running : k.spaces.active ≡ Some i
   pub next : seat_of k.table ≡ Ok seat
@@ -46,7 +45,7 @@ pub record MayFork (k : Kernel) (i : ℕ) (seat : Seat) : Type 0 where
 abbrev pub child_of : Process → Process
 child_of p = record p { parent = p.pid; registers = slice_set p.registers 10 0; killed = false; mode = Ready }
 
--- process p, in place i, has a child there, with the same pages, descriptors and directory
+-- process p, in slot i, has a child there, with the same pages, descriptors and directory
 abbrev pub forked_as : Kernel → ℕ → Seat → Process → Kernel
 forked_as k i seat p = record k {
   tree = record k.tree { holds = with_hold k.tree.holds p.directory };
@@ -55,7 +54,7 @@ forked_as k i seat p = record k {
   files = all_shared k.files p.descriptors;
 }
 
--- whether the frames suffice for that; the child is awake
+-- the same where the frames suffice, and the child is awake; else nothing changes
 abbrev pub Forks : Kernel → Kernel → ℕ → Seat → Bool → Type 0
 Forks old new i seat true = (taken_frames (copied old.spaces i seat.place) ≤ old.spaces.frames)
     × ((p : Process) → slot old.table.places i ≡ Some p
@@ -64,7 +63,7 @@ Forks old new i seat false = (old.spaces.frames < taken_frames (copied old.space
 
 -- ---- wait
 
--- the zombie in a place, if there is one, is waited for, and its place is free
+-- the zombie in a slot, if there is one, is collected, and the slot is free
 abbrev pub collected : Kernel → Option ℕ → Kernel
 collected k None = k
 collected k (Some j) = record k { table = without k.table (Some j); spaces = with_place k.spaces j None }

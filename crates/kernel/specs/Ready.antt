@@ -1,4 +1,4 @@
--- Who is ready, as far as the kernel looks at the state.
+-- Who is ready, by what the kernel reads of the state.
 use Rattle.std.specs.Prelude.{Bool, List, None, Option, [], nat_le, option_map, true, ℕ, ◌%◌, ◌+◌, ◌-◌, ◌^◌, ◌≡◌}
 use Rattle.kernel.specs.declared.ready.Awaited.{Awaited}
 use Rattle.kernel.specs.Kernel.{base}
@@ -21,7 +21,7 @@ has_slept ticks w = nat_le (sleep_time w) ((ticks + (2 ^ 32 - w.since)) % 2 ^ 32
 
 -- ---- who is ready
 
--- the state as far as pending calls look at it beside the processes
+-- the part of the state that pending calls read, beside the processes
 abbrev pub awaited_in : List (Option OpenFile) → List (Option (List ℕ)) → Console → ℕ → State
 awaited_in opens pipes console ticks =
     base (record {

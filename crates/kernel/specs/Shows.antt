@@ -6,7 +6,7 @@ use Rattle.proc.specs.declared.process.Process.{Process}
 use Rattle.unixmodel.specs.Process as unix
 use Rattle.unixmodel.specs.State.{State}
 
--- a process of the abstract Unix, but for its memory and the size of that
+-- a process of the abstract Unix, without its memory and its size
 abbrev pub bare : unix.Process → Process
 bare p = record {
   pid = p.pid;
@@ -19,11 +19,11 @@ bare p = record {
   mode = p.mode;
 }
 
--- the same, and the size
+-- the same, with the size
 abbrev pub shown_as : unix.Process → ShownProcess
 shown_as p = record { process = bare p; size = p.size }
 
--- how many descriptors of a place name open file n
+-- how many descriptors of a slot's process name open file n
 abbrev pub naming : ℕ → Option unix.Process → ℕ
 naming n None = 0
 naming n (Some p) = names n p.descriptors

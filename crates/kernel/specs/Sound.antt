@@ -71,7 +71,7 @@ pub record IsPlaced (p : Process) (h : SpaceView) : Type 0 where
   pub aligned : p.pc % 4 ≡ 0
   pub mode : IsMode p h.memory p.mode
 
--- a place has a process exactly where it has a space
+-- a slot has a process exactly where it has a space
 abbrev pub IsPlace : Option Process → Option SpaceView → Type 0
 IsPlace None None = Unit {0}
 IsPlace None (Some h) = ⊥
@@ -84,7 +84,7 @@ is_at i (Some j) = j == i
 
 -- ---- open files
 
--- what holds of an open file beside the node that it is on: an end of a pipe is open for its side alone
+-- what holds of an open file, whatever its node: an end of a pipe is open for its side alone
 abbrev pub IsOpenOn : unix.OpenFile → unix.Target → Type 0
 IsOpenOn f (OnNode n offset) = Unit {0}
 IsOpenOn f (OnPipe q end) = f ≡ pipe_end q end
@@ -138,12 +138,12 @@ WaitsAs opens descriptors Ready = Unit {0}
 WaitsAs opens descriptors (Waiting w) = IsAwaiting opens descriptors w
 WaitsAs opens descriptors (Zombie status) = Unit {0}
 
--- the process of a place, if it waits, waits as a read or a write may
+-- the process of a slot, if it waits, waits as a read or a write may
 abbrev pub WaitsWell : List (Option Counted) → Option Process → Type 0
 WaitsWell opens None = Unit {0}
 WaitsWell opens (Some p) = WaitsAs opens p.descriptors p.mode
 
--- each open file is counted once for each descriptor that names it, and a pipe stands exactly where some open file is
+-- each open file is counted once for each descriptor that names it, and a pipe exists exactly while some open file is
 -- one of its ends
 pub record IsOpened (files : List (Option Counted)) (pipes : List (Option (List ℕ))) (places : List (Option Process))
     : Type 0 where
@@ -160,7 +160,7 @@ pub record IsKernel (k : Kernel) : Type 0 where
   pub all : length k.table.places ≡ 64
   pub spaces : length k.spaces.places ≡ 64
   pub stands : (i : ℕ) → IsPlace (slot k.table.places i) (slot k.spaces.places i)
-  -- the process of the active place runs, and no other
+  -- the process of the active slot runs, and no other does
   pub runs : (i : ℕ) → holds is_running (slot k.table.places i) ≡ is_at i k.spaces.active
   pub fits : taken_frames k.spaces ≤ k.spaces.frames
   pub opened : IsOpened k.files k.spaces.pipes k.table.places

@@ -1,4 +1,4 @@
--- What a kernel's fields stand for.
+-- What a kernel's fields represent.
 use Rattle.kernel.specs.declared.kernel.Kernel.TheInside.{Inside}
 use Rattle.kernel.specs.Kernel.{Kernel}
 use Rattle.kernel.specs.Sound.{IsKernel}

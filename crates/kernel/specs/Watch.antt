@@ -48,7 +48,7 @@ kind_of (Ticks now) = Time
 kind_of Bytes = Transfer
 kind_of Children = Child
 
--- the places of those who pass are awake, and those that were
+-- the slots that were awake, and those whose processes pass, are awake
 unfoldable pub roused : (Process → Bool) → List (Option Process) → List Bool → List Bool
 roused test [] awake = awake
 roused test (o ∷ os) [] = []
@@ -58,7 +58,7 @@ roused test (o ∷ os) (b ∷ bs) = (holds test o || b) ∷ roused test os bs
 abbrev pub woken_by : Channel → Places → Places
 woken_by c t = record t { awake = roused (waits_on c) t.places t.awake }
 
--- a process, which goes back to its place, has ended, and who may wait for that is awake
+-- a process goes back to its slot, and has ended; whoever may wait for that is awake
 abbrev pub ended_in : Places → ℕ → Process → ℤ → Places
 ended_in t at process status =
     woken_by Bytes (woken_by Children (exited (record t { places = put t.places at process }) at status))
@@ -77,7 +77,7 @@ abbrev pub IsAsleep : State → List (Option Process) → Option Process → Typ
 IsAsleep a places None = Unit {0}
 IsAsleep a places (Some p) = IsAsleepAs a places p p.mode
 
--- in each place that isn't awake the process is asleep; a: what pending calls look at beside the processes
+-- the process of each slot that isn't awake is asleep; a: what pending calls read beside the processes
 pub record IsWatched (a : State) (places : List (Option Process)) (awake : List Bool) : Type 0 where
   pub asleep : (j : ℕ) → is_in awake j ≡ false → IsAsleep a places (slot places j)
 

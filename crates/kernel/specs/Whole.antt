@@ -1,4 +1,4 @@
--- What the table and the spaces come to in the abstract Unix's state.
+-- The table and the spaces as a state of the abstract Unix.
 use Rattle.std.specs.Prelude.{List, Option, [], drop, option_map, unwrap_or, ℕ, ◌∷◌}
 use Rattle.proc.specs.declared.process.Process.{Process}
 use Rattle.proc.specs.Places.{Places}
@@ -22,15 +22,15 @@ with_space h p = record {
   mode = p.mode;
 }
 
--- the space of a place, and no pages where there is none
+-- the space of a slot, or no pages where there is none
 abbrev pub space_in : List (Option SpaceView) → ℕ → SpaceView
 space_in hs i = unwrap_or (slot hs i) no_pages
 
--- the places with their spaces
+-- the processes of the slots with their spaces
 unfoldable pub joined : List (Option Process) → List (Option SpaceView) → List (Option unix.Process)
 joined [] hs = []
 joined (o ∷ os) hs = option_map (with_space (space_in hs 0)) o ∷ joined os (drop 1 hs)
 
--- the state with the table's places and these spaces
+-- the state with the table's slots and these spaces
 abbrev pub with_table : State → Places → List (Option SpaceView) → State
 with_table s t hs = record s { places = joined t.places hs; last = t.last; next_pid = t.next_pid }

@@ -10,7 +10,7 @@ use unixmodel::process::Mode;
 /// What processes wait for.
 #[derive(Clone, Copy)]
 pub enum Channel {
-    /// The ticks, which are so many now: for those whose sleep is over.
+    /// The ticks, with their current count: for those whose sleep is over.
     Ticks(u32),
     /// Bytes and room for bytes: for reads and writes.
     Bytes,
@@ -46,7 +46,7 @@ fn kind_of(channel: Channel) -> WaitKind
     }
 }
 
-/// A turn looks again at each place whose process waits on a channel.
+/// Wakes each process that waits on a channel: a turn looks at its slot again.
 pub fn wakeup(table: &mut Table, channel: Channel)
     ensures { table.new ≡ woken_by channel table.old }
 {

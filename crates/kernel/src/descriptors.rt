@@ -56,7 +56,7 @@ pub fn share_all(files: &mut Files, descriptors: &[Option<u8>; 16])
     }
 }
 
-/// The lowest free descriptor of the process in a place names a new open file, and is the answer.
+/// Names a new open file by the lowest free descriptor of the process in slot `at`, and returns the descriptor.
 pub fn open_as(table: &mut Table, files: &mut Files, at: usize, file: OpenFile) -> usize
     requires place { 0 < free_count files.old }
     requires free { 0 < free_descriptors table.old at }
@@ -76,8 +76,8 @@ pub fn open_as(table: &mut Table, files: &mut Files, at: usize, file: OpenFile) 
     free
 }
 
-/// One descriptor of an open file is closed, and a pipe that has no end any more goes. Where it was the last one of an
-/// open file on a node, that is told.
+/// Closes one descriptor of an open file. A pipe without an end goes. Returns the node of the open file where this was
+/// the last descriptor of an open file on a node.
 pub fn close<T: Translate>(files: &mut Files, spaces: &mut Spaces<T>, id: usize) -> Option<u32>
     requires { IsPiped spaces.old.pipes (opens_of files.old) }
     ensures node { result ≡ last_node files.old id }
@@ -97,7 +97,7 @@ pub fn close<T: Translate>(files: &mut Files, spaces: &mut Spaces<T>, id: usize)
     }
 }
 
-/// The descriptors are closed, and a pipe that has no end any more goes. The nodes of the open files that go are told.
+/// Closes the descriptors. Pipes without an end go. Returns the nodes of the open files that go.
 pub fn close_all<T: Translate>(
     files: &mut Files,
     spaces: &mut Spaces<T>,
@@ -120,7 +120,7 @@ pub fn close_all<T: Translate>(
     gone
 }
 
-/// The one that held this node lets go, if there is one.
+/// The holder of this node, if there is one, lets it go.
 pub fn let_one_go<D: BlockDev>(tree: &mut Tree<D>, node: Option<u32>) -> Result<(), DeviceFault>
     requires up { tree.old.failed ≡ false }
     requires held { AreHeld tree.old (listed node) }
@@ -132,7 +132,7 @@ pub fn let_one_go<D: BlockDev>(tree: &mut Tree<D>, node: Option<u32>) -> Result<
     }
 }
 
-/// Those that held these nodes let go, one after the other.
+/// The holders of these nodes let them go, one after the other.
 pub fn let_go<D: BlockDev>(tree: &mut Tree<D>, nodes: &[u32]) -> Result<(), DeviceFault>
     requires up { tree.old.failed ≡ false }
     requires held { AreHeld tree.old nodes.now }

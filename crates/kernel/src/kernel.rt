@@ -95,8 +95,8 @@ fn halted_after(pid: u32, status: i32, halted: Option<i32>) -> Option<i32>
     if pid == 1 { Some(status) } else { halted }
 }
 
-// The process of a place ends: its descriptors are closed, who may wait for that is woken, and none runs. The nodes
-// that it held are told.
+// The process in slot `at` ends: its descriptors are closed, whoever may wait for that is woken, and none runs. Returns
+// the nodes that it held.
 fn end<T: Translate>(
     table: &mut Table,
     files: &mut Files,
@@ -148,7 +148,7 @@ impl<D: BlockDev, T: Translate> Kernel<D, T> {
         self.tree.device()
     }
 
-    /// The place of the running process.
+    /// The slot of the running process.
     pub fn active(&self) -> Option<usize>
         ensures { result ≡ self.now.spaces.active }
     {
@@ -189,14 +189,14 @@ impl<D: BlockDev, T: Translate> Kernel<D, T> {
         self.ticks
     }
 
-    /// The process in a place. Of the running one the hart holds the registers and the pc.
+    /// The process in a slot. Of the running one the hart holds the registers and the pc.
     pub fn process(&self, at: usize) -> Option<&Process>
         ensures { option_copied result ≡ slot self.now.table.places at }
     {
         self.table.process(at)
     }
 
-    /// The registers a0 to a7: the arguments of a call, and its number.
+    /// A register of a0 to a7: an argument of a call, or its number.
     pub fn argument(&self, n: usize) -> u64
         requires { n < 8 }
         ensures { result ≡ argument self.now n }
@@ -204,7 +204,7 @@ impl<D: BlockDev, T: Translate> Kernel<D, T> {
         self.spaces.registers()[10 + n]
     }
 
-    /// The pid of the process in a place.
+    /// The pid of the process in a slot.
     pub fn pid(&self, at: usize) -> u32
         ensures { IfSome (slot self.now.table.places at) (λ p. result ≡ p.pid) }
     {
@@ -214,7 +214,7 @@ impl<D: BlockDev, T: Translate> Kernel<D, T> {
         }
     }
 
-    /// The open file that a descriptor of the process in a place names.
+    /// The open file that a descriptor of the process in a slot names.
     pub fn open_id(&self, at: usize, descriptor: u32) -> Option<u8>
         ensures named { result ≡ slot (descriptors_at self.now at) descriptor }
         ensures within { IfSome result (λ _. descriptor < 16) }
@@ -225,7 +225,7 @@ impl<D: BlockDev, T: Translate> Kernel<D, T> {
         }
     }
 
-    /// Begins a call: the pc goes on by 4.
+    /// Begins a call: the pc advances by 4.
     pub fn enter(&mut self)
         ensures { self.new ≡ entered self.old }
     {
@@ -233,7 +233,7 @@ impl<D: BlockDev, T: Translate> Kernel<D, T> {
         self.spaces.set_pc(pc.wrapping_add(4));
     }
 
-    /// Puts the answer of a call into a0.
+    /// Puts the result of a call into a0.
     pub fn answer(&mut self, value: u64)
         ensures { self.new ≡ answered self.old value }
     {
@@ -251,7 +251,7 @@ impl<D: BlockDev, T: Translate> Kernel<D, T> {
         trap
     }
 
-    /// The process in a place with what the hart holds.
+    /// The process in a slot, with what the hart holds.
     pub fn on_hart(&self, at: usize) -> Option<Process>
         ensures process { result ≡ option_map (on_hart self.now.spaces) (slot self.now.table.places at) }
         ensures within { IfSome result (λ _. at < 64) }
@@ -268,7 +268,7 @@ impl<D: BlockDev, T: Translate> Kernel<D, T> {
         }
     }
 
-    // The process that ran, in a place, runs no more.
+    // The process that ran, in slot `at`, runs no more.
     fn leave(&mut self, at: usize, mode: Mode)
         requires sound { IsKernel (left_as self.old at mode) }
         requires watched { Watches (left_as self.old at mode) }
@@ -291,7 +291,7 @@ impl<D: BlockDev, T: Translate> Kernel<D, T> {
         self.leave(at, Mode::Waiting(pending));
     }
 
-    /// The process in a place, but for its memory; of the running one with what the hart holds.
+    /// The process in a slot, without its memory; of the running one with what the hart holds.
     pub fn whole(&self, at: usize) -> Option<Process>
         ensures process { result ≡ slot (loaded self.now).places at }
         ensures within { IfSome result (λ _. at < 64) }
@@ -303,8 +303,8 @@ impl<D: BlockDev, T: Translate> Kernel<D, T> {
         }
     }
 
-    /// The running process ends with this status, or a process where none runs; also where an access of the device
-    /// fails.
+    /// Ends the running process with this status, or, where none runs, the process in slot `at`; also where an access
+    /// of the device fails.
     #[inline(never)]
     pub fn finish(&mut self, at: usize, status: i32) -> Result<(), DeviceFault>
         requires { CanEnd self.old at }
@@ -349,7 +349,7 @@ impl<D: BlockDev, T: Translate> Kernel<D, T> {
         )
     }
 
-    /// A process runs, where none did.
+    /// Starts a process, where none ran.
     pub fn start(&mut self, at: usize)
         requires idle { self.old.spaces.active ≡ None }
         requires can { CanRun (slot self.old.table.places at) }
@@ -362,7 +362,7 @@ impl<D: BlockDev, T: Translate> Kernel<D, T> {
         }
     }
 
-    /// The place of the process with a pid.
+    /// The slot of the process with a pid.
     pub fn find(&self, pid: u32) -> Option<usize>
         ensures place { result ≡ place_where self.now.table.places (has_pid pid) }
         ensures within { IfSome result (λ i. i < 64) }
@@ -370,7 +370,7 @@ impl<D: BlockDev, T: Translate> Kernel<D, T> {
         self.table.find(pid)
     }
 
-    /// Whether the running process may write so many bytes.
+    /// Whether the running process may write `count` bytes from `address` on.
     pub fn can_write(&self, at: usize, address: u64, count: u64) -> bool
         requires { self.now.spaces.active ≡ Some at }
         ensures { result ≡ can_write (view_at self.now.spaces at).memory address count }
@@ -386,7 +386,7 @@ impl<D: BlockDev, T: Translate> Kernel<D, T> {
         self.spaces.size(at)
     }
 
-    /// Marks the process in a place, which doesn't run.
+    /// Marks the process in a slot as killed; it doesn't run.
     pub fn mark(&mut self, at: usize)
         requires { self.old.spaces.active ≢ Some at }
         ensures { self.new ≡ waking (marked self.old at) self.new.table.awake }
@@ -395,7 +395,7 @@ impl<D: BlockDev, T: Translate> Kernel<D, T> {
         self.table.wake(at); // it may end at its turn
     }
 
-    /// A key was typed. Where `out` fails nothing changes, and a beginning of what shows the key was put out.
+    /// A key was typed. Where `out` fails nothing changes, and a beginning of what shows the key was written.
     pub fn type_key<W: Out>(&mut self, byte: u8, out: &mut W) -> Result<(), OutFault>
         ensures ok { OnOk result
             (self.new ≡ waking (typed self.old (key self.old.console byte).console) self.new.table.awake) }

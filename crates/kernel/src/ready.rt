@@ -114,7 +114,7 @@ impl<T: Translate> Awaited<'_, T> {
         }
     }
 
-    /// Whether the process in a place is ready.
+    /// Whether the process in a slot is ready.
     pub fn is_ready(&self, places: &[Place], at: usize) -> bool
         requires { IsPiped self.now.spaces.now.pipes (opens_of self.now.files.now) }
         ensures { result ≡ ready (seen (awaited self.now) places.now) at }

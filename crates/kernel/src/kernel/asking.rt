@@ -54,7 +54,7 @@ impl<D: BlockDev, T: Translate> Kernel<D, T> {
         &self.console
     }
 
-    /// The place and the pid of the process that comes next.
+    /// The slot and the pid of the next process.
     #[inline]
     pub fn next_seat(&self) -> Result<Seat, ProcFault>
         ensures seat { result ≡ seat_of self.now.table }
@@ -119,7 +119,7 @@ impl<D: BlockDev, T: Translate> Kernel<D, T> {
         self.files.has_end(pipe, end)
     }
 
-    /// The lowest free place of a pipe.
+    /// The lowest free slot for a pipe.
     #[inline]
     pub fn free_pipe(&self) -> Option<usize>
         ensures place { result ≡ free_slot self.now.spaces.pipes }
@@ -137,7 +137,7 @@ impl<D: BlockDev, T: Translate> Kernel<D, T> {
         self.spaces.has_bytes(pipe)
     }
 
-    /// Whether the running process may read so many bytes.
+    /// Whether the running process may read `count` bytes from `address` on.
     #[inline]
     pub fn can_read(&self, at: usize, address: u64, count: u64) -> bool
         requires { self.now.spaces.active ≡ Some at }
@@ -155,7 +155,7 @@ impl<D: BlockDev, T: Translate> Kernel<D, T> {
         self.spaces.readable(at, address)
     }
 
-    /// Copies the path at an address of the running process, and tells its length; `None` where there is none.
+    /// Copies the path at an address of the running process, and returns its length; `None` where there is none.
     #[inline]
     pub fn copy_path(&self, at: usize, address: u64, buffer: &mut [u8; 127]) -> Option<usize>
         requires { self.now.spaces.active ≡ Some at }

@@ -56,7 +56,7 @@ impl<D: BlockDev, T: Translate> Kernel<D, T> {
         self.tree.resolve(directory, path)
     }
 
-    /// What a node tells of itself.
+    /// Type, major number, number of links and size of a node.
     #[inline]
     pub fn stat(&mut self, number: usize) -> Result<InodeStat, DeviceFault>
         requires up { self.old.tree.failed ≡ false }
@@ -67,7 +67,7 @@ impl<D: BlockDev, T: Translate> Kernel<D, T> {
         self.tree.stat(number)
     }
 
-    /// What the node with a number tells of itself; `None` where there is none.
+    /// Type, major number, number of links and size of the node with a number; `None` where there is none.
     #[inline]
     pub fn look(&mut self, number: usize) -> Result<Option<InodeStat>, DeviceFault>
         requires { self.old.tree.failed ≡ false }
@@ -76,8 +76,8 @@ impl<D: BlockDev, T: Translate> Kernel<D, T> {
         self.tree.look(number)
     }
 
-    /// Reads bytes of what any number names from the place `from` on, as many as there are, and tells how many: none of
-    /// a device, and none where it names nothing.
+    /// Reads bytes of the node with any number from offset `from` on, as many as there are, and returns how many: none
+    /// of a device, and none where there is no node.
     #[inline]
     pub fn read_any(
         &mut self,
@@ -92,7 +92,7 @@ impl<D: BlockDev, T: Translate> Kernel<D, T> {
         self.tree.read_any(number, from, out)
     }
 
-    /// A file or a device with the lowest free number, which it tells, and a name for it.
+    /// Makes a file or a device with the lowest free number and a name for it, and returns the number.
     #[inline]
     pub fn create(&mut self, at: usize, path: &[u8], leaf: Leaf) -> Result<usize, TreeFault>
         requires running { self.old.spaces.active ≡ Some at }
@@ -108,7 +108,7 @@ impl<D: BlockDev, T: Translate> Kernel<D, T> {
         made
     }
 
-    /// A directory with the lowest free number, and a name for it.
+    /// Makes a directory with the lowest free number, and a name for it.
     #[inline]
     pub fn create_directory(&mut self, at: usize, path: &[u8]) -> Result<(), TreeFault>
         requires running { self.old.spaces.active ≡ Some at }
@@ -123,7 +123,7 @@ impl<D: BlockDev, T: Translate> Kernel<D, T> {
         made
     }
 
-    /// Another name for a file or a device.
+    /// Adds a name for a file or a device.
     #[inline]
     pub fn link(&mut self, at: usize, old: &[u8], new: &[u8]) -> Result<(), TreeFault>
         requires running { self.old.spaces.active ≡ Some at }
@@ -138,7 +138,7 @@ impl<D: BlockDev, T: Translate> Kernel<D, T> {
         made
     }
 
-    /// A name is taken away, and its node too where that has no links any more and nobody holds it.
+    /// Removes a name, and its node too where that has no links any more and nobody holds it.
     #[inline]
     pub fn unlink(&mut self, at: usize, path: &[u8]) -> Result<(), TreeFault>
         requires running { self.old.spaces.active ≡ Some at }
@@ -152,7 +152,7 @@ impl<D: BlockDev, T: Translate> Kernel<D, T> {
         made
     }
 
-    /// Empties a file. Nothing becomes of a device or a directory.
+    /// Empties a file. Leaves a device or a directory as it is.
     #[inline]
     pub fn truncate(&mut self, number: usize) -> Result<(), DeviceFault>
         requires up { self.old.tree.failed ≡ false }

@@ -1,4 +1,4 @@
-//! A kernel that goes on twice.
+//! A duplicate of a kernel, which goes on by itself.
 ghost use Rattle.std.specs.Prelude.{◌≡◌, IfOk};
 
 use crate::kernel::Kernel;
@@ -8,8 +8,8 @@ use std::alloc::Global;
 use sv39::Translate;
 
 impl<D: Duplicate, T: Translate> Kernel<D, T> {
-    /// The same kernel over a duplicate of the memory and of the disk, with a translator of its own. That one is
-    /// fenced: it may hold anything.
+    /// The same kernel over a duplicate of the memory and of the disk, with a translator of its own, which is fenced:
+    /// it may hold anything.
     ///
     /// `NoMemory` where the host has none for them.
     pub fn duplicate<U: Translate>(

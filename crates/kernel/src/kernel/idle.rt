@@ -28,7 +28,7 @@ fn is_sleeping(mode: Mode) -> bool
     }
 }
 
-// Whether a process is in `sleep`, of those in these places.
+// Whether a process in one of these slots is in `sleep`.
 fn any_sleeping(places: &[Place]) -> bool
     ensures { result ≡ list_any (holds (λ (p : Process). is_sleeping_mode p.mode)) places.now }
 {
@@ -39,7 +39,7 @@ fn any_sleeping(places: &[Place]) -> bool
 }
 
 impl<D: BlockDev, T: Translate> Kernel<D, T> {
-    /// The place of the process whose turn it is; `None`: none is ready.
+    /// The slot of the process whose turn it is; `None`: none is ready.
     pub fn next_turn(&self) -> Option<usize>
         requires { self.now.spaces.active ≡ None }
         ensures { result ≡ turn (state_of self.now) }

@@ -11,8 +11,8 @@ use sv39::Translate;
 use unixmodel::trap::Trap;
 
 impl<D: BlockDev, T: Translate> Kernel<D, T> {
-    /// Does so many instructions of the running process, up to the first that isn't done, and no further than to a stop
-    /// after the first of them: how many were done, and why the next one isn't.
+    /// Does at most `count` instructions of the running process, up to the first that isn't done or to a stop after the
+    /// first of them. Returns how many were done, and why the next one isn't.
     pub fn execute_many<S: Stops>(
         &mut self,
         at: usize,

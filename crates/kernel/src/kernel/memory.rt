@@ -1,4 +1,4 @@
-//! The kernel's steps on the memory of the running process: bytes come and go, and it grows and shrinks.
+//! The kernel's steps on the memory of the running process: bytes are read and written, and it grows and shrinks.
 ghost use Rattle.std.specs.Prelude.{◌≡◌, ◌+◌, ◌-◌, ◌<◌, ◌≤◌, Some, length, min, take, true};
 ghost use Rattle.std.specs.Bool.{OnFalse, OnTrue};
 ghost use Rattle.kernel.specs.Kernel.{typed, waking};
@@ -17,7 +17,7 @@ use console::{ROOM, Taken};
 use sv39::Translate;
 use vm::Perm;
 
-// The marks of the pages by which a process grows: it reads and writes them.
+// The marks of the pages that a process grows by: it may read and write them.
 const HEAP: Perm = Perm {
     w: true,
     x: false,
@@ -47,7 +47,7 @@ impl<D: BlockDev, T: Translate> Kernel<D, T> {
         self.spaces.frames_suffice();
     }
 
-    /// Takes what was typed, so many bytes of it at the most. A read that has some already stops at the end of a line.
+    /// Takes at most `count` bytes of what was typed. A read that has some already stops at the end of a line.
     #[inline]
     pub fn take_line(&mut self, count: usize, has_some: bool, buffer: &mut [u8; ROOM]) -> Taken
         ensures took { take_line has_some count self.old.console.committed ≡ record {
@@ -61,7 +61,7 @@ impl<D: BlockDev, T: Translate> Kernel<D, T> {
         self.console.take(count, has_some, buffer)
     }
 
-    /// Takes bytes of a pipe to an address of the running process, so many at the most, and tells how many.
+    /// Moves at most `count` bytes of a pipe to an address of the running process, and returns how many.
     #[inline]
     pub fn read_pipe(&mut self, at: usize, pipe: usize, address: u64, count: usize) -> usize
         requires running { self.old.spaces.active ≡ Some at }
@@ -76,7 +76,7 @@ impl<D: BlockDev, T: Translate> Kernel<D, T> {
         taken
     }
 
-    /// Puts bytes from an address of the running process on into a pipe, as many as fit, and tells how many.
+    /// Puts bytes from an address of the running process on into a pipe, as many as fit, and returns how many.
     #[inline]
     pub fn write_pipe(&mut self, at: usize, pipe: usize, address: u64, count: usize) -> usize
         requires running { self.old.spaces.active ≡ Some at }
@@ -91,7 +91,7 @@ impl<D: BlockDev, T: Translate> Kernel<D, T> {
         put
     }
 
-    /// Gives the running process so many bytes more, which are 0. It is refused where the frames don't suffice.
+    /// Grows the running process by `bytes` bytes, which are 0. Refuses it where the frames don't suffice.
     #[inline]
     pub fn grow(&mut self, at: usize, bytes: u64) -> bool
         requires { self.old.spaces.active ≡ Some at }
@@ -105,7 +105,7 @@ impl<D: BlockDev, T: Translate> Kernel<D, T> {
         self.spaces.grow(at, bytes, HEAP)
     }
 
-    /// Takes so many bytes from the end of the memory of the running process.
+    /// Takes the last `bytes` bytes from the memory of the running process.
     #[inline]
     pub fn shrink(&mut self, at: usize, bytes: u64)
         requires running { self.old.spaces.active ≡ Some at }

@@ -40,8 +40,8 @@ impl<D: BlockDev, T: Translate> Kernel<D, T> {
         self.files.dup(usize::from(id));
     }
 
-    /// A new open file is on a node of the disk, and the lowest free descriptor of the running process, which is told,
-    /// names it.
+    /// Opens a node of the disk as a new open file, which the lowest free descriptor of the running process names.
+    /// Returns the descriptor.
     #[inline]
     pub fn open_on(&mut self, at: usize, node: usize, file: OpenFile) -> usize
         requires { MayOpen self.old at node file }
@@ -54,8 +54,8 @@ impl<D: BlockDev, T: Translate> Kernel<D, T> {
         descriptor
     }
 
-    /// Makes a pipe in the lowest free place. The lowest free descriptors of the running process, which are told, name
-    /// its read end and its write end. `None`: the frames don't suffice; then nothing changes.
+    /// Makes a pipe in the lowest free slot. Returns the lowest free descriptors of the running process, which name its
+    /// read end and its write end; `None`: the frames don't suffice, and nothing changes.
     #[inline]
     pub fn open_pipe(&mut self, at: usize, pipe: usize) -> Option<(usize, usize)>
         requires may { MayPipe self.old at pipe }
@@ -82,7 +82,7 @@ impl<D: BlockDev, T: Translate> Kernel<D, T> {
         Some((reader, writer))
     }
 
-    /// A descriptor of the running process, which names an open file, is free. A pipe that has no end any more goes,
+    /// Closes a descriptor of the running process that names an open file. A pipe that has no end any more goes,
     /// and so does a node without links that nobody holds any more.
     #[inline]
     pub fn close(&mut self, at: usize, descriptor: usize, id: u8) -> Result<(), DeviceFault>
@@ -96,7 +96,7 @@ impl<D: BlockDev, T: Translate> Kernel<D, T> {
         let_one_go(&mut self.tree, gone)
     }
 
-    /// What is open on a file or a directory goes on from this offset, in bytes.
+    /// Sets the offset, in bytes, of an open file on a file or a directory.
     #[inline]
     pub fn set_offset(&mut self, id: usize, offset: u32)
         requires { MayMove self.old id offset }
@@ -105,8 +105,8 @@ impl<D: BlockDev, T: Translate> Kernel<D, T> {
         self.files.set_offset(id, offset);
     }
 
-    /// Reads bytes of a node from the place `offset` on into the memory of the running process from `address` on, at
-    /// most `count` of them, and tells how many.
+    /// Reads at most `count` bytes of a node from `offset` on into the memory of the running process from `address` on,
+    /// and returns how many.
     #[inline]
     pub fn read_node(
         &mut self,
@@ -136,8 +136,8 @@ impl<D: BlockDev, T: Translate> Kernel<D, T> {
         read
     }
 
-    /// Writes bytes of the memory of the running process from `address` on into a file from the place `offset` on, as
-    /// many as there are blocks for, and tells how many. `None`: `offset` lies past the file's end, or the file would
+    /// Writes bytes of the memory of the running process from `address` on into a file from `offset` on, as many as
+    /// there are blocks for, and returns how many. `None`: `offset` lies past the file's end, or the file would
     /// be too long; nothing is written.
     #[inline]
     pub fn write_node(

@@ -12,7 +12,7 @@ use sv39::Translate;
 use unixmodel::process::Mode;
 
 impl<D: BlockDev, T: Translate> Kernel<D, T> {
-    // The directory that the process in a place works in.
+    // The directory that the process in slot `at` works in.
     fn directory(&self, at: usize) -> Option<u32>
         ensures { result ≡ home_at self.now at }
     {
@@ -49,7 +49,7 @@ impl<D: BlockDev, T: Translate> Kernel<D, T> {
         true
     }
 
-    /// Waits for the first zombie child of a process: its place and its space are free then. `None`: there is no zombie
+    /// Waits for the first zombie child of a process: its slot and its space are free then. `None`: there is no zombie
     /// child.
     #[inline]
     pub fn collect(&mut self, parent: u32) -> Option<Reaped>

@@ -1,4 +1,4 @@
-//! The kernel's step of exec: another program comes in the place of the one that runs.
+//! The kernel's step of exec: another program replaces the one that runs.
 ghost use Rattle.std.specs.Prelude.{◌≡◌, ◌%◌, Some, false};
 ghost use Rattle.kernel.specs.Replacing.{ReplacesDisk, begun};
 ghost use Rattle.unixmodel.specs.Files.{Node, slot};
@@ -21,10 +21,10 @@ fn begin<T: Translate>(spaces: &mut Spaces<T>, started: &Started)
 }
 
 impl<D: BlockDev, T: Translate> Kernel<D, T> {
-    /// Puts the program of the file that a number names in the place of the one that the running process has, with the
-    /// arguments that
-    /// `argv` points at, and tells what it begins with. `None`: it can't be executed, or the frames don't suffice for
-    /// it beside the old one; then nothing changes. Where the device fails the process keeps a space.
+    /// Replaces the program of the running process by the program of file `number`, with the arguments that `argv`
+    /// points at, and returns how it begins.
+    /// `None`: it can't be executed, or the frames don't suffice for it beside the old one; then nothing changes.
+    /// Where the device fails the process keeps a space.
     pub fn replace(
         &mut self,
         at: usize,

@@ -21,7 +21,7 @@ use vm::Perm;
 /// What is shown of a process: all but its pages.
 #[derive(Clone, Copy)]
 pub struct ShownProcess {
-    /// All that it has but its memory.
+    /// All except its memory.
     pub process: Process,
     /// The size of its memory in bytes.
     pub size: u64,
@@ -35,7 +35,7 @@ impl<D: BlockDev, T: Translate> Kernel<D, T> {
         self.table.next_pid(after)
     }
 
-    /// The process with a pid, but for its pages; `None` where there is none.
+    /// The process with a pid, without its pages; `None` where there is none.
     pub fn shown(&self, pid: u32) -> Option<ShownProcess>
         ensures { result ≡ option_map shown_as (shown_process (state_of self.now) pid) }
     {
@@ -82,7 +82,7 @@ impl<D: BlockDev, T: Translate> Kernel<D, T> {
         Some((file, self.files.references(id)))
     }
 
-    /// The bytes of a pipe, the oldest first: those of the second slice stand behind those of the first. `None` where
+    /// The bytes of a pipe, the oldest first: those of the second slice follow those of the first. `None` where
     /// there is no such pipe.
     pub fn pipe(&self, number: usize) -> Option<(&[u8], &[u8])>
         ensures { option_map (λ r. r.0.now ++ r.1.now) result ≡ slot (state_of self.now).pipes number }

@@ -2,7 +2,7 @@ use Rattle.std.proofs.Common.{◌-◌, ◌≤◌}
 use Rattle.kernel.proofs.Watching.{Roused}
 use Rattle.kernel.proofs.channels.wakeup.Given as goal
 
--- of the places so far who waits there is awake
+-- in the slots so far, whoever waits on the channel is awake
 abbrev pub invariant-places : goal.invariant-places
 invariant-places l = (l.from ≤ 64) × Roused l.channel l.fn.table l.from l.table
 
