@@ -1,4 +1,4 @@
--- The names that the lemmas of this crate import from elsewhere, passed on from one place. Declares nothing.
+-- The names from elsewhere that the lemmas of this crate import, in one file. Declares nothing.
 pub use Rattle.std.proofs.Common.{◌%◌, ◌*◌, ◌+◌, ◌++◌, ◌-◌, ◌/◌, ◌<◌, [], ap, arith, below_more, Bool, cond, drop, Err}
 pub use Rattle.std.proofs.Common.{false, get_or, inl, inr, le_refl, length, List, map, min, None, not, Ok, OnOk, Option}
 pub use Rattle.std.proofs.Common.{refl, replicate, Result, set, Some, subst, suc, sym, take, true, zero, ℕ, ◌∙◌, ◌∷◌}

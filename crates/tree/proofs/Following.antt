@@ -1,4 +1,4 @@
--- Steps of a call on files, one after the other, and how the call ends.
+-- The steps of a call on files, one after the other, and how the call ends.
 use Rattle.tree.proofs.Common.{set, ◌≡◌, ◌≢◌, ◌≤◌, ◌∙◌, ℕ, Err, List, Ok, Result, ap, arith, false, refl, subst, sym}
 use Rattle.tree.proofs.Common.{true, IfOk, IsSome, None, OnErr, Option, Some, IsRefusal, false≢true, DeviceFault}
 use Rattle.tree.proofs.Common.{IsFolder, Reads, Tries, Turns, Acts}
@@ -45,7 +45,7 @@ beside-acted : {old new : FileTree} {T : Type 0} {r : Result T TreeFault} {Done 
 beside-acted acts = record
     { size = acts.size; limit = acts.limit; holds = acts.holds; device = acts.same_device; later = acts.later }
 
--- ---- a step answers
+-- ---- a step returns
 
 module _ {old new : FileTree} {T : Type 0} {Told : T → Type 0} (beside : Beside old new) where
   pub tried : {x : T} → new.failed ≡ false → Told x → Tries old new (Ok x) Told
@@ -76,7 +76,7 @@ module _ {old new : FileTree} {T : Type 0} {Told : T → Type 0} (beside : Besid
     holds = beside.holds;
   }
 
--- behind steps that were good: these are the files, and all else is as it was
+-- after steps that succeeded: these are the files, and all else is as it was
 pub record IsNow (old now : FileTree) (files : Files) : Type 0 where
   pub is : now ≡ record old { files = files; failures = now.failures }
   pub later : old.failures ≤ now.failures
@@ -93,7 +93,7 @@ beside-now now = record {
   later = now.later;
 }
 
--- by what is known of the files
+-- equal files
 pub now-wanted : {old now : FileTree} {files wanted : Files} → IsNow old now files → files ≡ wanted
     → IsNow old now wanted
 now-wanted {old} {now} is e = subst (IsNow old now) e is
@@ -117,12 +117,12 @@ module _ {old mid : FileTree} {files : Files} (now : IsNow old mid files) where
   pub some-now : (n : ℕ) → slot files n ≢ None → slot mid.files n ≢ None
   some-now n = subst (λ (fs : Files). slot fs n ≢ None) (sym now-files)
 
-  -- what is told of a node behind them
+  -- what holds of a node of the current tree holds of the node in `files`
   pub told-now : (n : ℕ) {P : Node → Type 0} → ((x : Node) → slot mid.files n ≡ Some x → P x) → (x : Node)
       → slot files n ≡ Some x → P x
   told-now n told x here = told x (ap (λ (fs : Files). slot fs n) now-files ∙ here)
 
-  -- a directory behind them was one before them
+  -- a directory of `files` is one of the current tree
   abbrev pub folder-now : {d : ℕ} → IsFolder files d → IsFolder mid.files d
   folder-now {d} f = record
       { links = f.links; places = f.places; here = ap (λ (fs : Files). slot fs d) now-files ∙ f.here }
@@ -147,7 +147,7 @@ module _ {old mid : FileTree} {files : Files} (now : IsNow old mid files) where
       pub now-turned : {x : T} {next : Files} → Turns mid new r next → r ≡ Ok x → IsNow old new next
       now-turned turns is = now-served turns.serves is (λ told. told)
 
-    -- the number that a name had, told behind them
+    -- the number that a name has, looked up in the current tree
     pub looked : (d : ℕ) (name : List ℕ) {r : Result (Option ℕ) DeviceFault} {o x : Option ℕ}
         → Reads mid new r (λ n. n ≡ lookup mid.files d name) → r ≡ Ok o → o ≡ x → lookup files d name ≡ x
     looked d name reads was is =
@@ -165,7 +165,7 @@ module _ {old mid : FileTree} {files : Files} (now : IsNow old mid files) where
         (failed (beside-then (beside-now now) (beside-tried tries)) down
         (rises-before now.later (tries.serves.cause.failed (ap is_err was))))
 
--- ---- the answer of the last step
+-- ---- the result of the last step
 
 last-is : {old mid new : FileTree} {files : Files} (now : IsNow old mid files) {T : Type 0} {Was Told : T → Type 0}
     (r : Result T DeviceFault) → Tries mid new r Was → ((x : T) → r ≡ Ok x → Told x) → Tries old new r Told
@@ -262,7 +262,7 @@ module _ {old now : FileTree} {T : Type 0} {Done : T → Type 0} {Refused : Type
       rw (err.1 ∙ ap Err err.2)
       (refused (beside-then (beside-now is) (beside-tried tries)) down (λ known. absurd (known refl)) (λ _. rises))
 
-  -- a part was refused, and so is all
+  -- a part was refused, and so is the whole
   pub acts-refused : {mid : FileTree} → IsNow old mid old.files
       → {U : Type 0} {Part : U → Type 0} {Less : Type 0} {Cause : TreeFault → Type 0} {r : Result U TreeFault}
       {s : Result T TreeFault} {fault : TreeFault} → Acts mid now r Part Less Cause → r ≡ Err fault
@@ -278,14 +278,14 @@ module _ {old now : FileTree} {T : Type 0} {Done : T → Type 0} {Refused : Type
       record { refused = both.0; why = both.1; same = no.same ∙ now-files is })
       (λ e. let rises = part.cause (ap Err e) in rises-before is.later rises))
 
--- ---- steps that turn files into others, and steps that answer for all files alike
+-- ---- steps that turn files into others, and what holds of equal files
 
 module _ {old mid : FileTree} {files : Files} (now : IsNow old mid files) where
-  -- what was told of a tree behind steps, of what is known of the one before
+  -- a property of the current tree, as one of the tree that the old one became
   pub was-now : (P : FileTree → Type 0) → P mid → P (record old { files = files; failures = mid.failures })
   was-now P = subst P now.is
 
-  -- and what is asked of it
+  -- and the other way round
   pub at-now : (P : FileTree → Type 0) → P (record old { files = files; failures = mid.failures }) → P mid
   at-now P = subst P (sym now.is)
 
@@ -320,7 +320,7 @@ module _ {old mid : FileTree} {files : Files} (now : IsNow old mid files) where
           now-wanted (now-served now takes.serves is (λ _. t.1)) (now-files now),
         )
 
-  -- behind a call on names
+  -- after a call on names
   module _ {new : FileTree} {T : Type 0} {r : Result T TreeFault} {Done : T → Type 0} {Refused : Type 0}
       {Why : TreeFault → Type 0} (acts : Acts mid new r Done Refused Why) where
     pub now-passed : old.failed ≡ false → {x : T} → r ≡ Ok x → {next : Files} → new.files ≡ next → IsNow old new next
@@ -340,28 +340,28 @@ module _ {old mid : FileTree} {files : Files} (now : IsNow old mid files) where
           later = all.later;
         }
 
-  -- that left the files as they were
+  -- a call that left the files as they were
   pub now-kept : {new : FileTree} {T : Type 0} {r : Result T TreeFault} {Done : T → Type 0} {Refused : Type 0}
       {Why : TreeFault → Type 0} → Acts mid new r (λ x. Done x × (new.files ≡ mid.files)) Refused Why
       → old.failed ≡ false → {x : T} → r ≡ Ok x → IsNow old new files
   now-kept {new} {Done = Done} acts up is =
       now-passed acts up is ((IfOk-at_ok (λ x. Done x × (new.files ≡ mid.files)) is acts.done).1 ∙ now-files now)
 
--- a file is one behind steps
+-- a file of `files` is one of the current tree
 abbrev pub file-now : {old mid : FileTree} {files : Files} → IsNow old mid files → {n : ℕ} → IsFile files n
     → IsFile mid.files n
 file-now now {n} f = record
     { links = f.links; bytes = f.bytes; here = ap (λ (fs : Files). slot fs n) (now-files now) ∙ f.here }
 
--- ---- the files are others by what is known of them
+-- ---- equal files, at the end
 
 pub end-still : {old now : FileTree} {T : Type 0} {files goal : Files} {x : T} → old.failed ≡ false
     → IsNow old now files → files ≡ goal → Turns old now (Ok x) goal
 end-still up is e = end-turned up (now-wanted is e)
 
--- ---- places of a directory are written
+-- ---- slots of a directory are written
 
--- these bytes make these files of it
+-- writing these bytes to the directory makes these files
 pub record Becomes (t : FileTree) (d at : ℕ) (bytes : List ℕ) (goal : Files) : Type 0 where
   pub next : List (Option Entry)
   pub able : Rewrites t d at bytes next
@@ -372,7 +372,7 @@ told-done : {T : Type 0} {Was Told : T → Type 0} (r : Result T DeviceFault) �
 told-done (Ok x) so was = so x was
 told-done (Err e) so was = tt
 
--- what is told tells more
+-- a weaker condition on the result
 pub tells-more : {old new : FileTree} {T : Type 0} {Was Told : T → Type 0} {r : Result T DeviceFault}
     → ((x : T) → Was x → Told x) → Tries old new r Was → Tries old new r Told
 tells-more {r = r} so tries = record {

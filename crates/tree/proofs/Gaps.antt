@@ -1,4 +1,4 @@
--- A new name, and one that goes by its path: where it stands, why it is refused, and what becomes of the files.
+-- A new name, and the removal of one by its path: its slot, why it is refused, and which files it leaves.
 use Rattle.tree.proofs.Common.{set, ◌≡◌, ℕ, ◌≤◌, List, None, Option, Some, ap, sym, ◌∙◌, arith, suc, option_and_then}
 use Rattle.tree.proofs.Common.{option_map, get_or-set_other, none-some, Store, TakesLowest, IsFree, free-number}
 use Rattle.tree.proofs.Common.{entered, room_in, TakesNode, IsFileSystem}
@@ -25,7 +25,7 @@ use Rattle.tree.specs.Calls.{HasBlocks}
 
 -- ---- the lowest free number is taken for a node without bytes
 
--- a node stays as it is while another comes
+-- a node stays as it is while another is added
 pub still-here : {files : Files} {n : ℕ} → IsFree files n → (node : Node) (k : ℕ) {x : Node} → slot files k ≡ Some x
     → slot (put files n node) k ≡ Some x
 still-here {files} {n} number node k {x} here =
@@ -99,9 +99,9 @@ spot-directory files d path at h = go (above files d path) (sym (spot-above _ d 
   go None q = absurd (none-some at q)
   go (Some two) q = at-node _ at two.1 two.0 _ refl q
 
--- ---- a gap
+-- ---- a gap: the slot of a new entry
 
--- what the looks at the directory of a spot told
+-- from what was read of the directory of a spot
 module _ (files : Files) (d : ℕ) (path : List ℕ) {at : Spot} (spot : spot_of files d path ≡ Some at) where
   abbrev live : IsLiveAt files at.directory
   live = spot-directory _ d path at spot
@@ -176,13 +176,13 @@ gap-making limit files d path more _ why = why
 pub overflow-none : (limit : ℕ) {made : Option Files} → made ≡ None → Overflows limit made
 overflow-none limit e files h = absurd (none-some _ (sym e ∙ h))
 
--- an entry at a spot makes files that take its blocks and so many more, and none where the directory is full
+-- an entry at a spot makes files that take its blocks and `more` blocks, and none where the directory is full
 pub record Fills (files : Files) (at : Spot) (more : ℕ) (made : Option Files) : Type 0 where
   pub full : (live : IsLiveAt files at.directory) → room_in live.places ≡ None → made ≡ None
   pub grows : (live : IsLiveAt files at.directory) (k : ℕ) → room_in live.places ≡ Some k → (fs : Files)
       → made ≡ Some fs → blocks_of fs ≡ blocks_of files + growth live.places k + more
 
--- behind a test that fails
+-- after a test that fails
 pub tested : {files : Files} {at : Spot} {more : ℕ} (made : Bool → Option Files) → made false ≡ None
     → Fills files at more (made true) → (test : Bool) → Fills files at more (made test)
 tested made none fills true = fills
@@ -224,7 +224,7 @@ module _ {files : Files} {d : ℕ} {path : List ℕ} {more : ℕ} {made : Option
   overflows fault.Device known why = absurd (known refl)
   overflows _ known why = absurd why
 
--- a node that comes with an entry fills so
+-- a node that is added with an entry fills so
 pub make-fills : (files : Files) (at : Spot) (node : ℕ → Node) (after : Made → Files) {more : ℕ}
     → ((n : ℕ) → free_number files ≡ Some n → (live : IsLiveAt files at.directory) (k : ℕ)
     → room_in live.places ≡ Some k
@@ -302,11 +302,11 @@ pub leaf-empty : (l : Leaf) → size_of (leaf_node l) ≡ 0
 leaf-empty leaf.File = refl
 leaf-empty (leaf.Device major minor) = refl
 
--- a node that comes is there
+-- a node that is added is there
 pub comes-some : (files : Files) (n : ℕ) (node : Node) → n < length files → slot (put files n node) n ≢ None
 comes-some files n node within none = none-some node (sym none ∙ get_or-set_same _ n _ None within)
 
--- ---- an entry for a node that has come
+-- ---- an entry for a node that was added
 
 plain-bytes : (w : List ℕ) → list_all is_plain w ≡ true → All (λ b. b ≢ 0) w
 plain-bytes [] h = All-nil (λ b. b ≢ 0)
@@ -326,7 +326,7 @@ abbrev pub places-of : Node → List (Option Entry)
 places-of (Directory links places) = places
 places-of _ = []
 
--- what putting the entry asks
+-- what `put_entry` requires
 pub record AsksEntry (t : FileTree) (at : Spot) (k n : ℕ) : Type 0 where
   pub plain : (m : ℕ) → m < 65536 → IsPlain (record { name = at.name; number = m })
   pub node : slot t.files n ≢ None
@@ -350,7 +350,7 @@ entry-asked {old} {mid} {files} {next} now {d} {path} {at} {k} gap blocks here n
           omega arith;
     })
 
--- what came is this node
+-- the added node is this one
 pub fresh-now : {old now : FileTree} (files : Files) (n : ℕ) {came : Option Node} {node : Node} → came ≡ Some node
     → IsNow old now (set files n came) → IsNow old now (put files n node)
 fresh-now {old} {now} files n e = subst (λ x. IsNow old now (set files n x)) e
@@ -367,7 +367,7 @@ made-asked {files = files} node empty {at} {n = n} gap is now =
 
 -- ---- a name goes, by its path: why it is refused, and what the disk holds
 
--- the definitions make nothing, and this is why
+-- the definitions make nothing, for this reason
 abbrev Refuses : List ℕ → Files → ℕ → List ℕ → TreeFault → Type 0
 Refuses holds files d path told = (unlinked_in holds files d path ≡ None) × LacksUnlinking files d path told
 

@@ -1,4 +1,4 @@
--- What calls on a file system make of its files keeps the rules of names, and which nodes they leave without links.
+-- Calls on a file system keep the rules of names; which nodes they leave without links.
 use Rattle.tree.proofs.Common.{◌≡◌, ◌≢◌, ℕ, ◌+◌, Bool, List, None, Option, Some, cond, get_or, length, ap, sym, refl}
 use Rattle.tree.proofs.Common.{◌∙◌, arith, subst, true, false, All, Err, IfErr, IfOk, IsSome, Ok, Result, nat_le}
 use Rattle.tree.proofs.Common.{nat_lt, option_and_then, option_map, ◌&&◌, and_parts, false≢true, leb-false, leb-true}
@@ -21,7 +21,7 @@ use Rattle.tree.specs.Written.{with_bytes}
 use Rattle.tree.proofs.Following.{IsNow, now-begin, now-files}
 use Rattle.tree.proofs.Storing.{slot-within}
 
--- whom open files and working directories hold
+-- whether open files or working directories hold number k
 abbrev pub used : List ℕ → ℕ → Bool
 used holds k = nat_lt 0 (get_or holds k 0)
 
@@ -45,7 +45,7 @@ module _ {files : Files} (keeps : KeepsTree files) (d : ℕ) (path : List ℕ) (
   folder-changed more h = option_and_then_some (made_directory files) (spot_of files d path) more h
       (λ at spot is. keeps-made-directory keeps at (spot-parts _ d path at plain spot) more is)
 
-  -- a name more
+  -- one more name
   pub linked-changed : (old : List ℕ) (more : Files) → linked_in files d old path ≡ Some more → Changed files more
   unfolding linked_in
   linked-changed old more h =
@@ -149,7 +149,7 @@ written-changed {files} keeps limit n at new file =
     go false e = changed-same keeps
     go true e = writes-over keeps n _ _ new at _ file.here (leb-true _ longest (and_parts _ _ e).1)
 
--- ---- what a call on names answers
+-- ---- what a call on names returns
 
 pub device-is : (fault : TreeFault) → is_device fault ≡ false → fault ≢ Device
 device-is fault h = λ e. false≢true (sym h ∙ ap is_device e)
@@ -211,12 +211,12 @@ module _ (holds : List ℕ) (files : Files) (n : ℕ) where
 abbrev is_linked : ℕ → Node → Bool
 is_linked n node = nat_lt 0 (links_of node)
 
--- nothing becomes of a free number
+-- a free number stays free
 pub let-go-free : (holds : List ℕ) (files : Files) (n : ℕ) → slot files n ≡ None → let_go holds files n ≡ files
 unfolding let_go
 let-go-free holds files n here = ap (λ o. cond (stays holds n o) files (clear files n)) here
 
--- nor of the other numbers
+-- the other numbers stay as they are
 let-go-beside : (files : Files) (n m : ℕ) → m ≢ n → slot (let_go [] files n) m ≡ slot files m
 let-go-beside files n m away = go (slot files n) refl where
   go : (o : Option Node) → slot files n ≡ o → slot (let_go [] files n) m ≡ slot files m
@@ -227,7 +227,7 @@ let-go-beside files n m away = go (slot files n) refl where
     | inr some ↦ ap (λ fs. slot fs m) (let-go-linked [] files n node here (omega (arith, some)))
   ]
 
--- it names what it names once nobody holds any
+-- number n gets what it has once nobody holds any node
 let-go-at : (files now : Files) (n : ℕ) → slot now n ≡ slot files n → slot (let_go [] now n) n ≡ slot (unheld files) n
 let-go-at files now n same = go (slot files n) refl where
   go : (o : Option Node) → slot files n ≡ o → slot (let_go [] now n) n ≡ slot (unheld files) n
@@ -244,7 +244,7 @@ let-go-at files now n same = go (slot files n) refl where
         ∙ sym (kept-here is_linked _ n node here (lt-ltb 0 (links_of node) (omega (arith, some))))
   ]
 
--- what a look at it told
+-- from the result of a look at it
 pub told-free : {p : Option Node} (o : Option InodeStat) → o ≡ None → TellsAny o p → p ≡ None
 told-free {p} o is told = go p (subst (λ (o : Option InodeStat). TellsAny o p) is told) where
   go : (p : Option Node) → TellsAny None p → p ≡ None
@@ -271,7 +271,7 @@ let-go-long files n = go (stays [] n (slot files n)) where
 abbrev bare : FileTree → FileTree
 bare t = record t { holds = replicate (length t.holds) 0 }
 
--- of the numbers below i the nodes without links are gone
+-- the nodes below number i without links are gone
 pub record IsSwept (old t : FileTree) (i : ℕ) : Type 0 where
   pub now : IsNow (bare old) t t.files
   pub long : length t.files ≡ length old.files

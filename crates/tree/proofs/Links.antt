@@ -20,20 +20,20 @@ use Rattle.tree.proofs.Places.{blocks_of-entered, enter-full, enter-room, none-n
 use Rattle.tree.proofs.Following.{IsNow}
 use Rattle.tree.proofs.Naming.{stays-node}
 
--- ---- the number of links of a node is another
+-- ---- a node gets another number of links
 
 pub links-size : (node : Node) (k : ℕ) → size_of (with_links node k) ≡ size_of node
 links-size (File links bytes) k = refl
 links-size _ k = refl
 
 module _ (files : Files) (n : ℕ) (node : Node) (here : slot files n ≡ Some node) where
-  -- a change that gives it so many
+  -- a change that sets the links to k
   pub relinked : (k : ℕ) (change : Node → Node) → with_links node k ≡ change node
       → change_node files n (λ node. with_links node k) ≡ change_node files n change
   relinked k change e = change-is _ n (λ node. with_links node k) node here ∙ ap (put files n) e
       ∙ sym (change-is _ n change node here)
 
-  -- a link more takes no block
+  -- one more link takes no block
   more-blocks : blocks_of (change_node files n more_links) ≡ blocks_of files
   more-blocks =
       let next = with_links node (links_of node + 1) in
@@ -65,7 +65,7 @@ module _ (files : Files) (d : ℕ) (old new : List ℕ) where
   linked-nothing e = ap (option_and_then (λ n. option_and_then (λ at. linked files at n) (spot_of files d new))) e
 
   module _ (n : ℕ) (node : Node) (found : find files d old ≡ Some n) (here : slot files n ≡ Some node) where
-    -- the node has a link more, and an entry where a test passes
+    -- the node has one more link, and an entry where a test passes
     abbrev counted : Files
     counted = change_node files n more_links
 
@@ -156,7 +156,7 @@ module _ (files : Files) (d : ℕ) (old new : List ℕ) where
           gap-linking fault.Links why = absurd why
           gap-linking _ why = why
 
--- ---- what is told of the node that the old path reaches
+-- ---- the node that the old path reaches, as `stat` reports it
 
 pub record IsSeen (files : Files) (d : ℕ) (path : List ℕ) (n : ℕ) (s : InodeStat) : Type 0 where
   pub node : Node
@@ -211,7 +211,7 @@ module _ (old : FileTree) {d : ℕ} {path : List ℕ} {n : ℕ} {t : InodeStat} 
       pub link-asked : (node : Node) × (slot files n ≡ Some node) × (links_of node < 65535)
       link-asked = (s.node, s.here, (let e = s.told.1 in omega arith))
 
-      -- the new name has a place
+      -- there is a slot for the new name
       module _ {at : Spot} {k : ℕ} (gap : HasGap limit files d new 0 at k) where
         pub linked-asked : {mid : FileTree} → IsNow old mid (change_node files n more_links) → All (λ b. b ≢ 0) new
             → AsksEntry mid at k n
@@ -226,7 +226,7 @@ module _ (old : FileTree) {d : ℕ} {path : List ℕ} {n : ℕ} {t : InodeStat} 
 
 -- ---- a new directory: why it is refused, and what the disk holds
 
--- ---- what they are
+-- ---- its entries
 
 abbrev pub own : ℕ → Entry
 own n = record { name = dot; number = n }
@@ -240,7 +240,7 @@ dot-plain = plain-name dot refl
 pub dots-plain : (n : ℕ) → n < 65536 → IsPlain (above n)
 dots-plain = plain-name dot_dot refl
 
--- ---- where they stand
+-- ---- the slots of its entries
 
 room-first : room_in [] ≡ Some 0
 unfolding room_in

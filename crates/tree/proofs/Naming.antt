@@ -69,7 +69,7 @@ parts-nothing : parts [] ≡ []
 unfolding parts
 parts-nothing = refl
 
--- the parts behind a slash
+-- the parts after a slash
 parts-behind : (bs : List ℕ) (i : ℕ) → i < length bs → is_slash (get_or bs i 0) ≡ true
     → parts (drop i bs) ≡ parts (drop (suc i) bs)
 parts-behind bs i h slash =
@@ -214,7 +214,7 @@ pub start-held : {files : Files} → KeepsTree files → (d : ℕ) (path : List 
     → n ≡ start_of d path → IsSome (slot files n)
 start-held {files} keeps d path used n e = subst (λ k. IsSome (slot files k)) (sym e) (start-used keeps d path used)
 
--- ---- what stands above a last name
+-- ---- what lies above a last name
 
 module _ {files : Files} (keeps : KeepsTree files) (d : ℕ) (path : List ℕ) (used : IsSome (slot files d)) (k : ℕ)
     (name : List ℕ) (is : above files d path ≡ Some (k, name)) where
@@ -235,7 +235,7 @@ module _ {files : Files} (keeps : KeepsTree files) (d : ℕ) (path : List ℕ) (
     go None h = absurd (none-some _ h)
     go (Some split) h = at split.1 split.0 (follow files (start_of d path) split.0) refl h
 
--- a spot is what stands above, where it is a directory with links
+-- a spot is what lies above, where it is a directory with links
 abbrev pub live_at : Files → Option (ℕ × List ℕ) → Option Spot
 live_at files o = option_and_then (λ (two : ℕ × List ℕ). live_spot files two.1 two.0) o
 
@@ -254,7 +254,7 @@ spot-above files d path = go (split_last (parts path)) where
   go None = refl
   go (Some split) = at split.1 (follow files (start_of d path) split.0)
 
--- ---- where the last name is to stand, as the disk tells it
+-- ---- the directory of the last name, as the disk reports it
 
 pub spot-none : (files : Files) (d : ℕ) (path : List ℕ) → above files d path ≡ None → spot_of files d path ≡ None
 spot-none files d path e = spot-above _ d path ∙ ap (live_at files) e
@@ -277,7 +277,7 @@ module _ {files : Files} (keeps : KeepsTree files) (d : ℕ) (path : List ℕ) (
   pub above-node : (x : Node) × (slot files k ≡ Some x)
   above-node = node-of _ (above-used keeps d path used k name is)
 
-  -- what is told of what stands above
+  -- from the attributes of what lies above
   module _ {s : InodeStat} (told : (x : Node) → slot files k ≡ Some x → Tells s x) where
     pub spot-other : s.kind ≢ 1 → (spot_of files d path ≡ None) × IsNoDirectory files d path
     spot-other h = go above-node.0 above-node.1 where
@@ -314,9 +314,9 @@ spot-lacks limit files d path more DeadDir why = why
 spot-lacks limit files d path more fault.Device why = tt
 spot-lacks limit files d path more _ why = absurd why
 
--- ---- a name goes: what the definitions make of the files, and what the steps on the disk do
+-- ---- a name goes: which files the definitions make, and what the steps on the disk do
 
--- ---- a name among places
+-- ---- a name among slots
 
 -- where a name is found
 pub record IsFound (places : List (Option Entry)) (name : List ℕ) (f : Found) : Type 0 where
@@ -384,7 +384,7 @@ module _ {files : Files} {d : ℕ} (naming : IsNaming files d) (name : List ℕ)
   pub lookup-missing : found_in naming.places name ≡ None → lookup files d name ≡ None
   lookup-missing e = lookup-in _ d _ _ naming.here name ∙ ap (option_map (λ (f : Found). f.number)) e
 
-  -- the files without the entry of this number at this place
+  -- the files without the entry with this number in this slot
   abbrev removed : Option ℕ → Option ℕ → Option Files
   removed number place = option_and_then (λ k. option_and_then (λ n. removed_node files d k n (slot files n)) number)
       place
@@ -456,7 +456,7 @@ stays-busy node h = go (may_remove node) h where
   go true q = absurd (none-some _ (sym q))
   go false q = refl
 
--- what is told of a node by its type, and of its places
+-- from the attributes of a node, and from its slots
 module _ (node : Node) (s : InodeStat) (told : Tells s node) where
   pub removal-other : s.kind ≢ 1 → removal node ≡ Some false
   removal-other k = go node told where
@@ -470,7 +470,7 @@ module _ (node : Node) (s : InodeStat) (told : Tells s node) where
     go (Directory links places) told here = record { links = links; places = places; here = here }
     go _ told here = absurd (let e = told.0 in omega arith)
 
--- what is told of the places of a directory
+-- from the slots of a directory
 pub removal-directory : {files : Files} {n : ℕ} {node : Node} → slot files n ≡ Some node
     → {b : Bool} (f : IsFolder files n) → b ≡ is_bare f.places → cond b (Some true) None ≡ removal node
 removal-directory {files} {n} {node} here f told = ap (λ b. cond b (Some true) None) told
@@ -527,7 +527,7 @@ unfolding lookup
 lookup-dead files d name e =
     ap (option_and_then (λ ps. entry_number (option_and_then (slot ps) (position (has_name name) ps)))) e
 
--- ---- as a look at it tells
+-- ---- from the attributes of a node
 
 module _ (files : Files) (d : ℕ) (used : IsSome (slot files d)) {s : InodeStat}
     (told : (x : Node) → slot files d ≡ Some x → Tells s x) where
@@ -546,7 +546,7 @@ module _ (files : Files) (d : ℕ) (used : IsSome (slot files d)) {s : InodeStat
 abbrev pub live-folder : {files : Files} {d : ℕ} → IsLiveAt files d → IsFolder files d
 live-folder live = record { links = suc live.links; places = live.places; here = live.here }
 
--- what is found in it
+-- the number that the search finds is that of the name
 pub lookup-told : {files : Files} {d : ℕ} (live : IsLiveAt files d) (name : List ℕ) (o : Option Found)
     → o ≡ found_in live.places name → option_map (λ (f : Found). f.number) o ≡ lookup files d name
 lookup-told {files} {d} live name o is = ap (option_map (λ (f : Found). f.number)) is

@@ -1,4 +1,4 @@
--- The places that a scan of a directory goes through.
+-- The slots that a scan of a directory goes through.
 use Rattle.tree.proofs.Common.{◌≡◌, ℕ, ◌+◌, ◌-◌, ◌<◌, ◌≤◌, Bool, List, [], ◌∷◌, None, Option, Some, length, ap, refl}
 use Rattle.tree.proofs.Common.{sym, ◌∙◌, arith, cond, true, false, suc, drop, nat_lt, option_and_then, ◌==◌, list_all}
 use Rattle.tree.proofs.Common.{cond-false, cond-true, false≢true, le-ltb, lt-ltb, ne_eqb, get_or-drop, length-drop}
@@ -17,7 +17,7 @@ use Rattle.imagerules.proofs.Spelling.{place-free, place-taken}
 use Rattle.std.specs.Borrow.{Bor}
 use Rattle.tree.specs.declared.place.Sought.{Sought}
 
--- ---- what is read of a directory's places
+-- ---- what is read of a directory's slots
 
 none-taken : (os : List (Option Entry)) → ((k : ℕ) → k < length os → slot os k ≡ None) → taken os ≡ []
 none-taken [] h = refl
@@ -32,7 +32,7 @@ some-taken _ _ e h = absurd (none-some e h)
 slot-drop : (os : List (Option Entry)) (k : ℕ) → slot (drop 2 os) k ≡ slot os (2 + k)
 slot-drop os k = get_or-drop 2 os k None
 
--- a place with a name is taken, by the number that stands in front
+-- a slot with a name is taken, by the number at its start
 named-place : (bytes name : List ℕ) (k n : ℕ) → has_name name (place_of_bytes bytes) ≡ true → n ≡ number_at 2 0 bytes
     → found_at k (place_of_bytes bytes) ≡ Some (record { place = k; number = n })
 named-place bytes name k n has is = go (list_all (λ b. b == 0) bytes) refl where
@@ -51,7 +51,7 @@ pub none-not : {X : Type 0} (o : Option X) → is_some o ≡ true → is_none o 
 none-not None h = absurd (false≢true h)
 none-not (Some x) h = refl
 
--- a directory's places, and where a new entry is to stand
+-- a directory's slots, and the slot of a new entry
 module _ (places : List (Option Entry)) where
   found-at : (name : List ℕ) (i : ℕ) → i < length places → ((k : ℕ) → k < i → has_name name (slot places k) ≡ false)
       → has_name name (slot places i) ≡ true
@@ -212,7 +212,7 @@ read-whole at count bytes old new is fits read =
     read ∙ ap (λ n. part at n bytes ++ drop n old) whole
     ∙ ap (λ r. part at (length old) bytes ++ r) (drop_all (length old) old (omega arith)) ∙ append-nil _
 
--- the places that are read next: no more than there are, nor than a block has
+-- the slots that are read next: no more than there are, and than a block has
 pub record IsNext (size k m : ℕ) : Type 0 where
   pub fits : 16 * (k + m) ≤ size
   pub most : 16 * m ≤ 1024
@@ -235,7 +235,7 @@ module _ (places : List (Option Entry)) (fits : All PlaceFits places) (k m : ℕ
         ∙ ap (λ n. part (16 * k) n (flat_map place_bytes places))
         (length-take-le (16 * m) block (let most = next.most in omega arith))
 
--- ---- m places from place k on
+-- ---- m slots from slot k on
 
 module _ (bytes : List ℕ) (k m : ℕ) (fits : 16 * (k + m) ≤ length bytes) where
   abbrev some : List ℕ
@@ -330,7 +330,7 @@ module _ (places : List (Option Entry)) (fits : All PlaceFits places) where
       (ap (has_name name.now) here ∙ is.here)
       ∙ ap (found_at found.place) here ∙ named-place (part (16 * found.place) 16 bytes) name.now _ _ is.here is.number)
 
-  -- a free place
+  -- a free slot
   pub free-told : (found : Found) → IsFirst Free bytes 0 found → Some found.place ≡ room_in places
   free-told found is =
       let w = is.within in
@@ -345,7 +345,7 @@ module _ (places : List (Option Entry)) (fits : All PlaceFits places) where
       (λ j l. let low : j < length bytes / 16 = omega (arith, long) in ap is_some (place-is j low)
       ∙ some-not _ (none j low (omega arith))))
 
-  -- a place in use, behind the first two
+  -- a slot in use, after the first two
   bare-is : (o : Option Found) → Scans Taken bytes 2 o → is_none o ≡ is_bare places
   bare-is None none = sym (bare-yes places (length bytes / 16) (omega (arith, long))
       (λ k l low. place-is k l ∙ free-of _ (none k l low)))
@@ -357,7 +357,7 @@ module _ (places : List (Option Entry)) (fits : All PlaceFits places) where
       → none ≡ is_bare places
   bare-told o scanned none is = none-is o none is ∙ bare-is o scanned
 
--- ---- the places of a directory
+-- ---- the slots of a directory
 
 pub folder-fits : {t : FileTree} {d : ℕ} → IsWhole t → (f : IsFolder t.files d) → All PlaceFits f.places
 folder-fits {d = d} whole f = subst FitsPlaces f.here (whole.places d)

@@ -1,4 +1,4 @@
--- An entry comes into a directory, and bytes into a file.
+-- An entry is added to a directory, and bytes are written into a file.
 use Rattle.tree.proofs.Common.{◌≡◌, ◌≢◌, None, ℕ, ◌+◌, ◌-◌, ◌*◌, ◌/◌, ◌<◌, ◌≤◌, List, [], ◌∷◌, ◌++◌, Option, Some}
 use Rattle.tree.proofs.Common.{length, drop, ap, sym, ◌∙◌, arith, subst, cond, inl, inr, All, flat_map, nat_lt}
 use Rattle.tree.proofs.Common.{cases_lt, drop_all, take_all, All-append, All-cons, All-nil, All-set, splice}
@@ -28,7 +28,7 @@ use Rattle.unixmodel.specs.FileCalls.{greatest, with_file}
 use Rattle.inode.specs.Store as inode
 use Rattle.tree.specs.Written as tree
 
--- ---- the spelling of a directory in which a place is another
+-- ---- the bytes of a directory with a slot replaced
 
 splice-after : (m : ℕ) (new first rest : List ℕ)
     → splice (length first + m) new (first ++ rest) ≡ first ++ splice m new rest
@@ -57,7 +57,7 @@ spelling-set (p ∷ os) (suc k) o fits fit h =
     ∙ splice-after (16 * k) (place_bytes o) (place_bytes p) (flat_map place_bytes os)
     ∙ ap (λ r. place_bytes p ++ r) (spelling-set os k o (All-tail PlaceFits p os fits) fit (omega arith))
 
--- ---- a place becomes free
+-- ---- a slot becomes free
 
 module _ {t : FileTree} (whole : IsWhole t) {d k : ℕ} (at : HasPlace t.files d k) where
   pub place-high : 16 * k + 16 ≤ longest
@@ -102,7 +102,7 @@ growth-size places place size grown e is =
     is ∙ ap (λ s. cond (nat_lt place (s / 16)) 0 (taken_for (s + 16) - taken_for s)) e
     ∙ ap (λ n. cond (nat_lt place n) 0 (taken_for (16 * length places + 16) - taken_for (16 * length places))) d
 
--- ---- the spelling of a directory with an entry
+-- ---- the bytes of a directory with an entry added
 
 placed-fits : (places : List (Option Entry)) (k : ℕ) (e : Entry) → All PlaceFits places → IsPlain e
     → All PlaceFits (placed places k e)
@@ -198,13 +198,13 @@ greatest-is test (suc n) k high here above = elim (cases_eq k _) [
       ∙ greatest-is test n k (omega arith) here (λ j l m. above j l (omega arith))
 ]
 
--- how many bytes went
+-- how many bytes were written
 abbrev count_after : List ℕ → Result (Unit {0}) InodeFault → Option ℕ
 count_after new (Ok u) = Some (length new)
 count_after new (Err (Blocks k)) = Some k
 count_after new (Err _) = None
 
--- what a write of an inode's bytes tells
+-- what a write of an inode's bytes leaves
 abbrev Wrote : {D : Type 0} → (D → List ℕ) → Store D → Store D → ℕ → ℕ → List ℕ → Result (Unit {0}) InodeFault → Type 0
 Wrote identity v v' n at new r =
     inode.Serves identity is_device v v' r (λ _. Writes v v' n at new) (LacksWriting v v' n at new)
@@ -255,12 +255,12 @@ module _ {D : Type 0} {v : Store D} {files : Files} {limit : ℕ} (holds : Store
   abbrev w : Option Written
   w = written limit files n at new
 
-  -- so many went
+  -- k bytes were written
   abbrev Told : Store D → Option ℕ → Type 0
   Told v' k = (k ≡ count_of w) × Stores v' (files_after files w)
 
   module _ {v' : Store D} (same : v'.geometry ≡ v.geometry) where
-    -- so many bytes are written, and there are no blocks for more
+    -- k bytes are written, and there are no blocks for more
     write-some : (k : ℕ) → k ≤ length new → at ≤ length old → at + length new ≤ longest
         → Changes v v' n (Some (with_bytes (raw_at v.nodes n) (splice at (take k new) old)))
         → ((j : ℕ) → k < j → j ≤ length new → nat_le (blocks_of (more j)) limit ≡ false) → Told v' (Some k)
@@ -335,7 +335,7 @@ module _ {D : Type 0} {identity : D → List ℕ} {t : Inside D} {seen : FileTre
         (λ turn. let both = told now in (turn _ both.1, both.0))).serves
 
   module _ {d at : ℕ} {bytes : List ℕ} where
-    -- places stand in a directory
+    -- the directory has the slots
     pub rewrite-done : {u : Unit {0}} → Wrote identity t.volume v' d at bytes (Ok u)
         → Tries seen (tree_of identity (with_volume t v')) (Ok u)
         (λ _. HasPlaces seen (tree_of identity (with_volume t v')) d at bytes)

@@ -1,4 +1,4 @@
--- What calls on names answer.
+-- What calls on names return.
 use Rattle.std.specs.Prelude.{Option, Some, ℕ, ◌<◌, ◌≡◌}
 use Rattle.unixmodel.specs.Counts.{blocks_of}
 use Rattle.unixmodel.specs.Files.{Files}

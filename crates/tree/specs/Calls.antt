@@ -1,4 +1,4 @@
--- What calls on the nodes of a file system tell, and what they leave.
+-- What calls on the nodes of a file system return, and what they leave.
 use Rattle.std.specs.Borrow.{Bor}
 use Rattle.std.specs.Prelude.{Bool, List, None, Option, Result, Some, [], drop, flat_map, length, min, nat_le}
 use Rattle.std.specs.Prelude.{option_map, replicate, ℕ, ◌*◌, ◌++◌, ◌+◌, ◌-◌, ◌≡◌, ◌≤◌}
@@ -25,7 +25,7 @@ use Rattle.unixmodel.specs.NameCalls.{unlinked}
 
 -- ---- bytes
 
--- a buffer has bytes from a place on at its front, as many as there are and as it takes
+-- a buffer begins with bytes from offset `at` on, as many as there are and as it has room for
 abbrev pub IsPart : List ℕ → ℕ → List ℕ → List ℕ → ℕ → Type 0
 IsPart bytes at old new k = (k ≡ min (length old) (length bytes - at)) × (new ≡ part at k bytes ++ drop k old)
 
@@ -34,15 +34,15 @@ abbrev pub IsPartOf : Files → ℕ → ℕ → List ℕ → List ℕ → ℕ �
 IsPartOf files number at old new k = (node : Node) → slot files number ≡ Some node
     → IsPart (node_bytes node) at old new k
 
--- the files are what a write leaves, and so many bytes went
+-- the files are what a write leaves, and `went` is how many bytes were written
 abbrev pub Writes : FileTree → FileTree → Option Written → Option ℕ → Type 0
 Writes old new w went = HasFiles old new (files_after old.files w) × (went ≡ count_of w)
 
--- the write is that of these bytes from a place on
+-- the write is that of these bytes from offset `at` on
 abbrev pub WritesAt : FileTree → FileTree → ℕ → ℕ → List ℕ → Option ℕ → Type 0
 WritesAt old new number at bytes went = Writes old new (written old.block_limit old.files number at bytes) went
 
--- a directory has the places that its new bytes spell
+-- a directory has the slots that its new bytes spell
 abbrev pub HasPlaces : FileTree → FileTree → ℕ → ℕ → List ℕ → Type 0
 HasPlaces old new d at bytes = (next : List (Option Entry)) → (r : Rewrites old d at bytes next)
     → HasFiles old new (put old.files d (Directory r.links next))
@@ -69,24 +69,24 @@ IsSwept old new = new ≡ record old
 
 -- ---- directories
 
--- the bytes of places from place k on
+-- the bytes of slots from slot k on
 abbrev pub ArePlaces : Files → ℕ → ℕ → List ℕ → List ℕ → Type 0
 ArePlaces files d k old new = (f : IsFolder files d) → new ≡ part (16 * k) (length old) (flat_map place_bytes f.places)
 
--- the first place from `from` on that is what is sought
+-- the first slot from `from` on that is what is sought
 abbrev pub ScansFolder : Files → ℕ → Sought → ℕ → Option Found → Type 0
 ScansFolder files d sought from found = (f : IsFolder files d) → Scans sought (flat_map place_bytes f.places) from found
 
--- where a name stands
+-- the slot of a name
 abbrev pub FindsName : Files → ℕ → List ℕ → Option Found → Type 0
 FindsName files d name found = (f : IsFolder files d) → found ≡ found_in f.places name
 
--- whether there are blocks for an entry at a place, and as many beside
+-- whether there are blocks for an entry in a slot, and `more` beside
 abbrev pub TellsRoom : FileTree → ℕ → ℕ → ℕ → Bool → Type 0
 TellsRoom t d place more enough = (r : HasRoom t.files d place)
     → enough ≡ nat_le (blocks_of t.files + (growth r.places place + more)) t.block_limit
 
--- there are
+-- there are blocks for an entry in a slot
 abbrev pub HasBlocks : FileTree → ℕ → ℕ → Type 0
 HasBlocks t d place = (r : HasRoom t.files d place) → blocks_of t.files + growth r.places place ≤ t.block_limit
 
@@ -111,7 +111,7 @@ FindsSpot old new d path result =
     Acts old new result (λ told. IsSpot old.files d path told × (new.files ≡ old.files))
     (spot_of old.files d path ≡ None) (LacksSpot old.files d path)
 
--- the spot of a path whose name is free, and the place of an entry there; there are `more` blocks beside those that it
+-- the spot of a path whose name is free, and the slot of its entry; there are `more` blocks beside those that the entry
 -- takes
 abbrev pub FindsGap : FileTree → FileTree → ℕ → List ℕ → ℕ → Result Gap TreeFault → Type 0
 FindsGap old new d path more result =
@@ -144,7 +144,7 @@ TakesName old new d path result =
     let left = unlinked_in old.holds old.files d path in
     Acts old new result (λ _. left ≡ Some new.files) (left ≡ None) (LacksUnlinking old.files d path)
 
--- a name goes, and its number is told
+-- a name goes, and the result is its number
 abbrev pub RemovesName : FileTree → FileTree → Spot → Result ℕ TreeFault → Type 0
 RemovesName old new at result =
     Acts old new result (Unlinks old.files new.files at) (unlinked old.files at ≡ None) (LacksName old.files at)

@@ -1,4 +1,4 @@
--- How an entry comes into a directory, and what it needs.
+-- How an entry is added to a directory, and what it needs.
 use Rattle.std.specs.Prelude.{IsSome, List, None, Option, Some, [], if◌then◌else◌, length, nat_lt, option_and_then}
 use Rattle.std.specs.Prelude.{option_map, suc, ℕ, ◌*◌, ◌++◌, ◌+◌, ◌-◌, ◌<◌, ◌∷◌, ◌≡◌, ◌≤◌}
 use Rattle.layout.specs.Image.{taken_for}
@@ -10,13 +10,13 @@ use Rattle.unixmodel.specs.Files.{places_at, put, slot, spot_of}
 use Rattle.unixmodel.specs.Files.Node.{Device, Directory, File}
 use Rattle.unixmodel.specs.NameCalls.{Made, linked, made_at, made_directory}
 
--- ---- the place of a new entry
+-- ---- the slot of a new entry
 
--- behind all places, while there is room
+-- after all slots, while there is room
 abbrev pub room_behind : ℕ → Option ℕ
 room_behind count = if nat_lt count most_places then Some count else None
 
--- the first free place, or the end
+-- the first free slot, or the end
 abbrev pub room_at : List (Option Entry) → Option ℕ → Option ℕ
 room_at places (Some k) = Some k
 room_at places None = room_behind (length places)
@@ -32,18 +32,18 @@ with_place k e (File links bytes) = File links bytes
 with_place k e (Device links major minor) = Device links major minor
 with_place k e (Directory links places) = Directory links (placed places k e)
 
--- the files with an entry at place k of directory d
+-- the files with an entry in slot k of directory d
 unfoldable pub entered : Files → ℕ → ℕ → Entry → Files
 entered files d k e = change_node files d (with_place k e)
 
 -- ---- the blocks that it takes
 
--- how many blocks more are taken with a place
+-- how many more blocks are taken with an entry in slot k
 abbrev pub growth : List (Option Entry) → ℕ → ℕ
 growth places k = if nat_lt k (length places) then 0
     else taken_for (16 * length places + 16) - taken_for (16 * length places)
 
--- d is a directory in which place k is the next for an entry
+-- d is a directory in which slot k is the next for an entry
 pub record HasRoom (files : Files) (d k : ℕ) : Type 0 where
   pub links : ℕ
   pub places : List (Option Entry)
@@ -52,8 +52,8 @@ pub record HasRoom (files : Files) (d k : ℕ) : Type 0 where
 
 -- ---- a new name
 
--- this spot is that of a path, its name is free, and its entry is to stand in place k; there are `more` blocks beside
--- those that it takes
+-- this spot is that of a path, its name is free, and its entry goes into slot k; there are `more` blocks beside those
+-- that it takes
 pub record HasGap (limit : ℕ) (files : Files) (d : ℕ) (path : List ℕ) (more : ℕ) (at : Spot) (k : ℕ) : Type 0 where
   pub spot : spot_of files d path ≡ Some at
   pub free : lookup files at.directory at.name ≡ None

@@ -1,4 +1,4 @@
--- What a path reaches, and why its last name may have no place to stand.
+-- What a path reaches, and why its last name may have no spot.
 use Rattle.std.specs.Prelude.{List, None, Option, Some, false, option_and_then, option_map, zero, ⊤, ℕ, ◌≡◌}
 use Rattle.tree.specs.declared.TreeFault.{TreeFault}
 use Rattle.tree.specs.declared.TreeFault.TheVariants.{DeadDir, Device, NotDir, NotFound}
@@ -13,7 +13,7 @@ reach files d names = option_and_then (λ split. option_map (λ k. (k, split.1))
 unfoldable pub above : Files → ℕ → List ℕ → Option (ℕ × List ℕ)
 above files d path = reach files (start_of d path) (parts path)
 
--- something stands above the last name, but it is no directory
+-- what lies above the last name is no directory
 pub record IsNoDirectory (files : Files) (d : ℕ) (path : List ℕ) : Type 0 where
   pub number : ℕ
   pub name : List ℕ
@@ -22,7 +22,7 @@ pub record IsNoDirectory (files : Files) (d : ℕ) (path : List ℕ) : Type 0 wh
   pub here : slot files number ≡ Some node
   pub other : is_directory node ≡ false
 
--- it is a directory without links
+-- what lies above the last name is a directory without links
 pub record IsDead (files : Files) (d : ℕ) (path : List ℕ) : Type 0 where
   pub number : ℕ
   pub name : List ℕ

@@ -1,4 +1,4 @@
--- What a scan of a directory's places finds.
+-- What a scan of a directory's slots finds.
 use Rattle.std.specs.Prelude.{Bool, List, None, Option, Some, is_none, is_some, length, ℕ, ◌*◌, ◌/◌, ◌<◌, ◌≡◌, ◌≤◌}
 use Rattle.std.specs.Prelude.{true, false}
 use Rattle.blockdev.specs.Splice.{part}
@@ -9,17 +9,17 @@ use Rattle.tree.specs.declared.place.Sought.TheVariants.{Free, Name, Taken}
 use Rattle.unixmodel.specs.Files.{Entry, has_name}
 use Rattle.unixmodel.specs.Numbers.{number_at}
 
--- whether a place is what is sought
+-- whether a slot is what is sought
 abbrev pub is_sought : Sought → Option Entry → Bool
 is_sought (Name name) o = has_name name.now o
 is_sought Free o = is_none o
 is_sought Taken o = is_some o
 
--- place k of a directory's bytes
+-- slot k of a directory's bytes
 abbrev pub place_in : List ℕ → ℕ → Option Entry
 place_in bytes k = place_of_bytes (part (16 * k) 16 bytes)
 
--- the first place from `from` on that is, and the number in it
+-- the first slot from `from` on that is, and the number in it
 pub record IsFirst (sought : Sought) (bytes : List ℕ) (from : ℕ) (found : Found) : Type 0 where
   pub behind : from ≤ found.place
   pub within : found.place < length bytes / 16

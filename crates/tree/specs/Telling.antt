@@ -1,4 +1,4 @@
--- What is told of a node.
+-- The attributes of a node, as `stat` reports them.
 use Rattle.std.specs.Prelude.{None, Option, Some, ⊤, ℕ, ◌≡◌}
 use Rattle.inode.specs.declared.InodeStat.{InodeStat}
 use Rattle.unixmodel.specs.Files.{Node, kind_of, links_of, size_of}
@@ -13,7 +13,7 @@ TellsMajor told (Directory links places) = ⊤
 abbrev pub Tells : InodeStat → Node → Type 0
 Tells s node = (s.kind ≡ kind_of node) × (s.links ≡ links_of node) × (s.size ≡ size_of node) × TellsMajor s.major node
 
--- and of a number that may name one
+-- the attributes of a number that may have a node
 abbrev pub TellsAny : Option InodeStat → Option Node → Type 0
 TellsAny None None = ⊤
 TellsAny None (Some node) = ⊥

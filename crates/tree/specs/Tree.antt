@@ -21,7 +21,7 @@ pub record FileTree : Type 0 where
   -- an access of the device has failed: nothing is promised of the files any more
   pub failed : Bool
   pub failures : ℕ
-  -- what tells the device from others
+  -- what distinguishes the device from others
   pub identity : List ℕ
 
 -- the files that a volume holds on this device, and who holds them
@@ -36,7 +36,7 @@ tree_with identity s holds = record {
   identity = identity;
 }
 
--- nobody does
+-- the files of a volume, of which nobody holds any
 abbrev pub tree_over : {D : Type 0} → (D → List ℕ) → Store D → FileTree
 tree_over identity s = tree_with (identity s.device) s (replicate s.geometry.inodes 0)
 
@@ -47,8 +47,8 @@ pub record IsInside {D : Type 0} (t : Inside D) : Type 0 where
   pub count : length t.holds.items ≡ t.volume.geometry.inodes
   pub held : t.volume.failed ≡ false → IsFileSystem t.volume
 
--- what a call on a file system answers: what is told holds, and no access has failed; an error is told only where the
--- device counts one. The device is the same
+-- what a call on a file system returns: on success its condition holds, and no access has failed; an error is returned
+-- only where the device counts a failure. The device is the same
 pub record Serves {T : Type 0} (old new : FileTree) (result : Result T DeviceFault) (Told : T → Type 0) : Type 0 where
   pub told : IfOk result Told
   pub up : OnOk result (new.failed ≡ false)
@@ -56,7 +56,7 @@ pub record Serves {T : Type 0} (old new : FileTree) (result : Result T DeviceFau
   pub same_device : new.identity ≡ old.identity
   pub cause : HasCause old.failures new.failures result
 
--- this is told, and nothing is changed
+-- the result's condition holds, and nothing is changed
 abbrev pub Looks : {T : Type 0} → FileTree → FileTree → Result T DeviceFault → (T → Type 0) → Type 0
 Looks old new result Told = Serves old new result (λ x. (new ≡ record old { failures = new.failures }) × Told x)
 
@@ -74,13 +74,13 @@ abbrev pub has_failed : {T : Type 0} → Result T TreeFault → Bool
 has_failed (Ok x) = false
 has_failed (Err fault) = is_device fault
 
--- a refusal: what it means, why it is, and the files are as they were
+-- a refusal: what it means, why it happened, and the files are as they were
 pub record IsRefusal (old new : FileTree) (Refused Why : Type 0) : Type 0 where
   pub refused : Refused
   pub why : Why
   pub same : new.files ≡ old.files
 
--- what a call that changes names answers
+-- what a call that changes names returns
 pub record Acts {T : Type 0} (old new : FileTree) (result : Result T TreeFault) (Done : T → Type 0) (Refused : Type 0)
     (Why : TreeFault → Type 0) : Type 0 where
   pub done : IfOk result Done

@@ -1,4 +1,4 @@
--- What comes of the files where a name goes, and what is answered.
+-- The files after a name was removed, and what the call returns.
 use Rattle.std.specs.Prelude.{IsSome, List, None, Option, Some, ⊤, false, option_and_then, option_map, suc, true, ℕ}
 use Rattle.std.specs.Prelude.{◌≡◌, ◌≢◌}
 use Rattle.tree.specs.declared.TreeFault.{TreeFault}
@@ -15,7 +15,7 @@ pub record IsNaming (files : Files) (d : ℕ) : Type 0 where
   pub here : slot files d ≡ Some (Directory (suc links) places)
   pub numbers : (k : ℕ) (e : Entry) → slot places k ≡ Some e → IsSome (slot files e.number)
 
--- the files are what the definitions make, and the name was that of number n, whose node is there still
+-- the files are what the definitions make, and the name was that of number n, whose node is still there
 pub record Unlinks (old new : Files) (at : Spot) (n : ℕ) : Type 0 where
   pub made : unlinked old at ≡ Some new
   pub named : lookup old at.directory at.name ≡ Some n

@@ -1,4 +1,4 @@
--- What a write makes of a file: as many of its bytes go as there are blocks for.
+-- What a write does to a file: as many of the bytes are written as there are blocks for.
 use Rattle.std.specs.Prelude.{List, None, Option, Some, if◌then◌else◌, length, nat_le, option_map, take, ℕ, ◌&&◌, ◌+◌}
 use Rattle.std.specs.Prelude.{◌≡◌}
 use Rattle.unixmodel.specs.Counts.{blocks_of}
@@ -13,7 +13,7 @@ pub record IsFile (files : Files) (n : ℕ) : Type 0 where
   pub bytes : List ℕ
   pub here : slot files n ≡ Some (File links bytes)
 
--- the files, and how many bytes went
+-- the files, and how many bytes were written
 pub record Written : Type 0 where
   pub files : Files
   pub count : ℕ
@@ -23,7 +23,7 @@ unfoldable pub fitting : ℕ → Files → ℕ → ℕ → ℕ → List ℕ → 
 fitting limit files n at links old new =
     greatest (λ k. nat_le (blocks_of (with_file files n links (overwrite old at (take k new)))) limit) (length new)
 
--- the file with so many of them
+-- the file with the first `fit` of them
 abbrev pub with_bytes : Files → ℕ → ℕ → ℕ → List ℕ → List ℕ → ℕ → Written
 with_bytes files n at links old new fit =
     record { files = with_file files n links (overwrite old at (take fit new)); count = fit }

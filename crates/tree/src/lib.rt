@@ -1,4 +1,4 @@
-//! Files by name: the places of directories, and how names come and go.
+//! Files by name: the slots of directories, and how names are made and removed.
 #![tactic(auto)]
 
 mod entering;

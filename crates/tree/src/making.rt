@@ -20,7 +20,7 @@ use layout::Kind;
 // The most links of a node.
 const MOST_LINKS: u16 = 32767;
 
-/// What a new node is that is no directory.
+/// A new node that is no directory.
 #[derive(Clone, Copy)]
 pub enum Leaf {
     /// A file without bytes.
@@ -47,9 +47,9 @@ impl Leaf {
 }
 
 impl<D: BlockDev> Tree<D> {
-    /// Makes a file or a device with the lowest free number, which it tells, and a name for it. Beside what has no
-    /// spot, it is refused by `Exists` where the name is there, `Full` where its directory has no room, `Blocks` where
-    /// the disk has none, and `Inodes` where no number is free.
+    /// Makes a file or a device with the lowest free number and a name for it, and returns the number. Besides the
+    /// faults of `spot` it returns `Exists` where the name is there, `Full` where its directory has no room, `Blocks`
+    /// where the disk has none, and `Inodes` where no number is free.
     pub fn create(&mut self, directory: usize, path: &[u8], leaf: Leaf) -> Result<usize, TreeFault>
         requires up { self.old.failed ≡ false }
         requires rules { KeepsTree self.old.files }
@@ -65,8 +65,8 @@ impl<D: BlockDev> Tree<D> {
         Ok(number)
     }
 
-    /// Gives a file or a device another name. `NotFound` comes where the old path reaches nothing, `IsDir` where it
-    /// reaches a directory, `Links` where the node has 32767 links already, and else what is in the way of a new name.
+    /// Gives a file or a device another name. Returns `NotFound` where the old path reaches nothing, `IsDir` where it
+    /// reaches a directory, `Links` where the node has 32767 links already, and else why a new name is refused.
     pub fn link(&mut self, directory: usize, old: &[u8], new: &[u8]) -> Result<(), TreeFault>
         requires up { self.old.failed ≡ false }
         requires rules { KeepsTree self.old.files }
@@ -90,10 +90,10 @@ impl<D: BlockDev> Tree<D> {
         Ok(())
     }
 
-    /// Makes a directory with the lowest free number, and a name for it: the one above has a link more. Beside what has
-    /// no spot, it is refused by `Exists` where the name is there, `Full` where the directory above has no room,
-    /// `Links` where that has 32767 links already, `Blocks` where the disk has no room for the name and a block, and
-    /// `Inodes` where no number is free.
+    /// Makes a directory with the lowest free number, and a name for it: the one above has one more link. Besides the
+    /// faults of `spot` it returns `Exists` where the name is there, `Full` where the directory above has no room,
+    /// `Blocks` where the disk has no room for the name and a block, `Links` where the directory above has 32767 links
+    /// already, and `Inodes` where no number is free.
     pub fn create_directory(&mut self, directory: usize, path: &[u8]) -> Result<(), TreeFault>
         requires up { self.old.failed ≡ false }
         requires rules { KeepsTree self.old.files }
@@ -115,7 +115,7 @@ impl<D: BlockDev> Tree<D> {
         Ok(())
     }
 
-    /// A new directory gets its first two entries.
+    /// Gives a new directory its first two entries.
     pub fn put_dots(&mut self, number: usize, above: usize) -> Result<(), DeviceFault>
         requires up { self.old.failed ≡ false }
         requires bare { slot self.old.files number ≡ Some (Directory 1 []) }

@@ -35,7 +35,7 @@ fn name_start(path: &[u8]) -> Option<usize>
     path.iter().position(|b| *b != b'/')
 }
 
-// The place of the first slash.
+// The offset of the first slash.
 fn first_slash(path: &[u8]) -> Option<usize>
     ensures { result ≡ position (λ b. b == 0x2f) path.now }
 {
@@ -65,7 +65,7 @@ impl<D: BlockDev> Tree<D> {
         self.find(directory, path)
     }
 
-    // What `resolve` tells.
+    // Does what `resolve` does.
     pub(crate) fn find(
         &mut self,
         directory: usize,
@@ -88,8 +88,8 @@ impl<D: BlockDev> Tree<D> {
         Ok(Some(number))
     }
 
-    /// The directory in which the last name of a path stands or is to stand, and that name. `NotFound` comes where
-    /// nothing stands above it, `NotDir` where that is no directory, and `DeadDir` where it is one without links.
+    /// The directory in which the last name of a path is or goes, and that name. Returns `NotFound` where there is
+    /// nothing above it, `NotDir` where that is no directory, and `DeadDir` where it is one without links.
     pub fn spot<'a>(
         &mut self,
         directory: usize,
@@ -113,7 +113,7 @@ impl<D: BlockDev> Tree<D> {
         Ok((number, name))
     }
 
-    // What all but the last name of a path reach, and the last.
+    // The node that all but the last name of a path reach, and the last name.
     fn reach<'a>(
         &mut self,
         directory: usize,

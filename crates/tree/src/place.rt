@@ -1,4 +1,4 @@
-//! The places of a directory.
+//! The slots of a directory.
 
 ghost use Rattle.std.specs.Prelude.{◌≡◌, IsSome, ℕ, ◌+◌, ◌-◌, ◌*◌, ◌/◌, ◌%◌, ◌<◌, ◌≤◌, ◌==◌, List, false, get_or};
 ghost use Rattle.std.specs.Prelude.{length, nat_lt, ◌&&◌};
@@ -16,16 +16,16 @@ use imagerules::{PLACE_SIZE, is_free, name_in, number_in, place_at};
 use inode::{DIRECTORY, InodeStat};
 use layout::LONGEST;
 
-// How many places a block has.
+// How many slots a block has.
 const PLACES: usize = BLOCK_SIZE / PLACE_SIZE;
 
-// The most places of a directory.
+// The most slots of a directory.
 const MOST_PLACES: usize = LONGEST / PLACE_SIZE;
 
-/// Where a name stands, and the number that it names.
+/// Where a name is, and the number that it names.
 #[derive(Clone, Copy)]
 pub struct Found {
-    /// The place in the directory.
+    /// The slot in the directory.
     pub place: usize,
     /// The number of the node.
     pub number: usize,
@@ -41,7 +41,7 @@ fn first_byte(name: &[u8]) -> u8
     }
 }
 
-// Whether a place has this name. Most others differ in their first byte.
+// Whether a slot has this name. Most others differ in their first byte.
 fn has_name(place: &[u8], name: &[u8]) -> bool
     requires { length place.now ≡ 16 }
     ensures { result ≡ has_name name.now (place_of_bytes place.now) }
@@ -55,15 +55,15 @@ fn has_name(place: &[u8], name: &[u8]) -> bool
 // What is sought in a directory.
 #[derive(Drop)]
 enum Sought<'a> {
-    // The place of a name.
+    // The slot of a name.
     Name(&'a [u8]),
-    // A free place.
+    // A free slot.
     Free,
-    // A place in use.
+    // A slot in use.
     Taken,
 }
 
-// Whether a place is what is sought.
+// Whether a slot is what is sought.
 fn is_sought(place: &[u8], sought: &Sought) -> bool
     requires { length place.now ≡ 16 }
     ensures { result ≡ is_sought sought.now (place_of_bytes place.now) }
@@ -75,7 +75,7 @@ fn is_sought(place: &[u8], sought: &Sought) -> bool
     }
 }
 
-// The first of these places that is what is sought.
+// The first of these slots that is what is sought.
 fn first(places: &[u8], sought: &Sought) -> Option<Found>
     ensures { Scans sought.now places.now 0 result }
 {
@@ -98,7 +98,7 @@ fn is_live(node: &InodeStat) -> bool
     node.kind == DIRECTORY && node.links > 0
 }
 
-// The place behind so many, unless that is past the longest directory.
+// The slot after `count` slots, unless that is past the longest directory.
 fn end_place(count: usize) -> Option<usize>
     ensures { result ≡ room_behind count }
 {
@@ -110,7 +110,7 @@ fn end_place(count: usize) -> Option<usize>
 }
 
 impl<D: BlockDev> Tree<D> {
-    // How many places a directory has.
+    // How many slots a directory has.
     fn count_places(&mut self, directory: usize) -> Result<usize, DeviceFault>
         requires up { self.old.failed ≡ false }
         requires directory { IsFolder self.old.files directory }
@@ -121,7 +121,7 @@ impl<D: BlockDev> Tree<D> {
         Ok(node.size as usize / PLACE_SIZE)
     }
 
-    // Reads places of a directory from place `k` on, as many as `out` has room for.
+    // Reads slots of a directory from slot `k` on, as many as `out` has room for.
     fn read_places(&mut self, directory: usize, k: usize, out: &mut [u8]) -> Result<(), DeviceFault>
         requires up { self.old.failed ≡ false }
         requires directory { IsFolder self.old.files directory }
@@ -133,7 +133,7 @@ impl<D: BlockDev> Tree<D> {
         Ok(())
     }
 
-    // The first place from `from` on that is what is sought, of a directory with so many places. It is read by blocks.
+    // The first slot from `from` on that is what is sought, of a directory with `count` slots. It is read by blocks.
     fn scan(
         &mut self,
         directory: usize,
@@ -164,7 +164,7 @@ impl<D: BlockDev> Tree<D> {
         Ok(None)
     }
 
-    // Where a name stands in a directory.
+    // The slot of a name in a directory.
     pub(crate) fn find_name(
         &mut self,
         directory: usize,
@@ -179,7 +179,7 @@ impl<D: BlockDev> Tree<D> {
         self.scan(directory, count, 0, &Sought::Name(name))
     }
 
-    // The number that a name has in a directory with links. In all else no name is found.
+    // The number that a name has in a directory with links. In any other node no name is found.
     pub(crate) fn lookup(
         &mut self,
         directory: usize,
@@ -199,7 +199,7 @@ impl<D: BlockDev> Tree<D> {
         Ok(Some(found.number))
     }
 
-    // The place in which a new entry of a directory is to stand: the first free one, or the end. `None` comes where the
+    // The slot for a new entry of a directory: the first free one, or the end. Returns `None` where the
     // directory is full.
     pub(crate) fn room(&mut self, directory: usize) -> Result<Option<usize>, DeviceFault>
         requires up { self.old.failed ≡ false }
@@ -215,7 +215,7 @@ impl<D: BlockDev> Tree<D> {
         }
     }
 
-    // Whether a directory has no places in use but its first two.
+    // Whether a directory has no slots in use except its first two.
     pub(crate) fn is_empty(&mut self, directory: usize) -> Result<bool, DeviceFault>
         requires up { self.old.failed ≡ false }
         requires directory { IsFolder self.old.files directory }

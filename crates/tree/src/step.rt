@@ -14,7 +14,7 @@ use blockdev::{BlockDev, DeviceFault};
 use inode::FILE;
 
 impl<D: BlockDev> Tree<D> {
-    /// One that held a node lets go: it goes with its blocks where it has no links and nobody else holds it.
+    /// One holder of a node lets it go: it goes with its blocks where it has no links and nobody else holds it.
     pub fn drop_hold(&mut self, number: usize) -> Result<(), DeviceFault>
         requires up { self.old.failed ≡ false }
         requires node { slot self.old.files number ≢ None }
@@ -25,7 +25,7 @@ impl<D: BlockDev> Tree<D> {
         self.let_go(number)
     }
 
-    /// Empties a file. Nothing becomes of a device or a directory.
+    /// Empties a file. Leaves a device or a directory as it is.
     pub fn truncate(&mut self, number: usize) -> Result<(), DeviceFault>
         requires up { self.old.failed ≡ false }
         requires node { slot self.old.files number ≢ None }
@@ -55,7 +55,7 @@ impl<D: BlockDev> Tree<D> {
         self.release(number)
     }
 
-    // A place of a directory becomes free.
+    // Frees a slot of a directory.
     pub(crate) fn free_place(&mut self, directory: usize, k: usize) -> Result<(), DeviceFault>
         requires up { self.old.failed ≡ false }
         requires place { HasPlace self.old.files directory k }
@@ -75,7 +75,7 @@ impl<D: BlockDev> Tree<D> {
         self.set_links(number, before.links.saturating_sub(1))
     }
 
-    /// A node has one link more.
+    /// Gives a node one more link.
     pub fn add_link(&mut self, number: usize) -> Result<(), DeviceFault>
         requires up { self.old.failed ≡ false }
         requires node { (node : Node) × (slot self.old.files number ≡ Some node) × (links_of node < 65535) }

@@ -9,7 +9,7 @@ use crate::Tree;
 use blockdev::{BlockDev, DeviceFault};
 
 impl<D: BlockDev> Tree<D> {
-    /// All that held nodes let go: each node goes with its blocks that has no links.
+    /// All holders let their nodes go: each node without links goes with its blocks.
     pub fn release_all(&mut self) -> Result<(), DeviceFault>
         requires up { self.old.failed ≡ false }
         ensures { Serves self.old self.new result (λ done. IsSwept self.old self.new) }
@@ -21,7 +21,7 @@ impl<D: BlockDev> Tree<D> {
         Ok(())
     }
 
-    // What a number names goes with its blocks, if it has no links.
+    // The node of a number goes with its blocks, if it has no links.
     fn release_unlinked(&mut self, number: usize) -> Result<(), DeviceFault>
         requires up { self.old.failed ≡ false }
         ensures { Serves self.old self.new result

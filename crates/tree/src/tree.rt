@@ -73,8 +73,8 @@ impl<D: BlockDev> Tree<D> {
         let _holds = self.holds.len();
     }
 
-    /// Gives up the files for their device, which gets what it lacks first. Where an access fails it isn't told what
-    /// the device has.
+    /// Flushes pending writes, and gives up the files for their device. Where an access fails, the content of the
+    /// device is not known.
     pub fn into_device(self) -> (D, Result<(), DeviceFault>)
         requires up { self.failed ≡ false }
         ensures stored { OnOk result.1 (IsStored self.size (D.content result.0) self.files) }
@@ -85,7 +85,7 @@ impl<D: BlockDev> Tree<D> {
         volume.into_device()
     }
 
-    /// Reads bytes of a node from the place `at` on, as many as there are, and tells how many.
+    /// Reads bytes of a node from offset `at` on, as many as there are, and returns how many.
     pub fn read(&mut self, number: usize, at: usize, out: &mut [u8]) -> Result<usize, DeviceFault>
         requires up { self.old.failed ≡ false }
         requires node { (node : Node) × (slot self.old.files number ≡ Some node) }
@@ -94,8 +94,8 @@ impl<D: BlockDev> Tree<D> {
         self.bytes(number, at, out)
     }
 
-    /// Reads bytes of what any number names from the place `at` on, as many as there are, and tells how many: none of a
-    /// device, and none where it names nothing.
+    /// Reads bytes of the node with any number from offset `at` on, as many as there are, and returns how many: none of
+    /// a device, and none where there is no node.
     pub fn read_any(
         &mut self,
         number: usize,
@@ -112,8 +112,8 @@ impl<D: BlockDev> Tree<D> {
         self.read(number, at, out)
     }
 
-    /// Writes bytes into a file from the place `at` on, as many as there are blocks for, and tells how many. `None`
-    /// comes where the place lies past the file's end or the file would be longer than `layout::LONGEST`; nothing is
+    /// Writes bytes into a file from offset `at` on, as many as there are blocks for, and returns how many. `None`: the
+    /// offset lies past the file's end, or the file would be longer than `layout::LONGEST`; nothing is
     /// written then.
     pub fn write(
         &mut self,
@@ -134,7 +134,7 @@ impl<D: BlockDev> Tree<D> {
         }
     }
 
-    /// Type, major number, number of links and size of what any number names; `None` where it names nothing.
+    /// Type, major number, number of links and size of the node with any number; `None` where there is none.
     pub fn look(&mut self, number: usize) -> Result<Option<InodeStat>, DeviceFault>
         requires up { self.old.failed ≡ false }
         ensures { Looks self.old self.new result (λ told. TellsAny told (slot self.old.files number)) }
@@ -152,7 +152,7 @@ impl<D: BlockDev> Tree<D> {
         self.node(number)
     }
 
-    /// One open file or working directory more holds a node: it stays until that lets go, also where its last name
+    /// One more open file or working directory holds a node: it stays until that lets go, also where its last name
     /// goes.
     pub fn hold(&mut self, number: usize)
         requires up { self.old.failed ≡ false }
@@ -165,7 +165,7 @@ impl<D: BlockDev> Tree<D> {
 
     // ---- steps of this crate's calls
 
-    // What `stat` tells.
+    // Does what `stat` does.
     pub(crate) fn node(&mut self, number: usize) -> Result<InodeStat, DeviceFault>
         requires up { self.old.failed ≡ false }
         requires node { (node : Node) × (slot self.old.files number ≡ Some node) }
@@ -175,7 +175,7 @@ impl<D: BlockDev> Tree<D> {
         self.volume.stat(number)
     }
 
-    // What `read` reads.
+    // Does what `read` does.
     pub(crate) fn bytes(
         &mut self,
         number: usize,
@@ -189,7 +189,7 @@ impl<D: BlockDev> Tree<D> {
         self.volume.read_at(number, at, out)
     }
 
-    /// Whether there are so many blocks beside those that the files take.
+    /// Whether there are `wanted` blocks beside those that the files take.
     pub fn has_blocks(&mut self, wanted: usize) -> Result<bool, DeviceFault>
         requires up { self.old.failed ≡ false }
         ensures { Reads self.old self.new result
@@ -198,7 +198,7 @@ impl<D: BlockDev> Tree<D> {
         self.volume.has_blocks(wanted)
     }
 
-    // Writes places of a directory.
+    // Writes slots of a directory.
     pub(crate) fn rewrite(
         &mut self,
         directory: usize,
@@ -218,7 +218,7 @@ impl<D: BlockDev> Tree<D> {
         }
     }
 
-    // A node has so many links.
+    // Sets the number of links of a node.
     pub(crate) fn set_links(&mut self, number: usize, links: u16) -> Result<(), DeviceFault>
         requires up { self.old.failed ≡ false }
         requires node { slot self.old.files number ≢ None }
@@ -235,7 +235,7 @@ impl<D: BlockDev> Tree<D> {
         self.volume.take(kind, 1)
     }
 
-    /// A number that names nothing gets a node without bytes that has one link.
+    /// A number without a node gets a node without bytes that has one link.
     pub fn take_node_at(&mut self, number: usize, kind: Kind) -> Result<(), DeviceFault>
         requires up { self.old.failed ≡ false }
         requires number { IsUnnamed self.old.files number }
@@ -298,7 +298,7 @@ impl<D: BlockDev> Tree<D> {
 }
 
 impl<D: Duplicate> Tree<D> {
-    /// The same files over a duplicate of the disk, with as many who hold each. It asks for host memory for all of it.
+    /// The same files over a duplicate of the disk, with the same holders. It asks for host memory for all of it.
     pub fn duplicate(&self, alloc: Global) -> Result<Tree<D>, AllocError>
         ensures { IfOk result (λ tree. tree ≡ self.now) }
     {

@@ -26,7 +26,7 @@ returns-in_default g c =
     let nothing = ap made_files (made-unnumbered _ _ _ _ c.in_ok-gap.ensures.done.0.spot none.0) in
     acts-not c.requires.up none.1 refl (overflow-none _ nothing) none.0
 
--- behind the node that came
+-- after the new node
 pub put_entry-requires : goal.put_entry-requires
 put_entry-requires g c =
     let took = now-took (now-kept now-begin c.find_gap.ensures c.requires.up c.in_ok-gap.was) c.kind.result

@@ -15,7 +15,7 @@ returns-in_err-gap g c =
     acts-refused now-begin c.find_gap.ensures c.in_err-gap.was
     (λ known less. weaker-folder _ _ _ _ _ known) c.from_residual.ensures.1
 
--- behind the look for a place
+-- after the search for a slot
 pub node-requires : goal.node-requires
 node-requires g c =
     let now = now-kept now-begin c.find_gap.ensures c.requires.up c.in_ok-gap.was in
@@ -44,7 +44,7 @@ returns-then-above-ge-MOST_LINKS g c =
     (overflow-none _ (folder-many _ _ _ _ gap.spot parent gap.here all))
     (record { at = _; spot = gap.spot; is = record { node = parent; here = gap.here; many = all } })
 
--- behind the look at the directory above
+-- after the look at the directory above
 pub take_node-requires : goal.take_node-requires
 take_node-requires g c =
     let now = now-read (now-kept now-begin c.find_gap.ensures c.requires.up c.in_ok-gap.was) c.node.ensures
@@ -64,7 +64,7 @@ returns-in_default g c =
     acts-not c.requires.up none.1 refl
     (overflow-none _ (folder-unnumbered _ _ _ _ gap.spot _ gap.here none.0)) none.0
 
--- behind the node that came
+-- after the new node
 pub put_dots-requires : goal.put_dots-requires
 put_dots-requires g c =
     let took = now-took (now-read (now-kept now-begin c.find_gap.ensures c.requires.up c.in_ok-gap.was) c.node.ensures
@@ -85,7 +85,7 @@ returns-in_err-put_dots g c =
     c.in_ok-above.was) kind.Directory c.take_node.ensures c.in_ok-number.was c.in-Some.is in
     acts-lost took.1 c.put_dots.ensures c.in_err-put_dots.was c.from_residual-in_err-put_dots.ensures.1
 
--- behind its own entries
+-- after its own entries
 pub put_entry-requires : goal.put_entry-requires
 put_entry-requires g c =
     let took = now-took (now-read (now-kept now-begin c.find_gap.ensures c.requires.up c.in_ok-gap.was) c.node.ensures
@@ -111,7 +111,7 @@ returns-in_err-put_entry g c =
     c.put_dots.ensures c.in_ok-put_dots.was in
     acts-lost dots c.put_entry.ensures c.in_err-put_entry.was c.from_residual-in_err-put_entry.ensures.1
 
--- behind its name
+-- after its name
 pub add_link-requires : goal.add_link-requires
 add_link-requires g c =
     let gap = c.in_ok-gap.ensures.done.0 in

@@ -11,7 +11,7 @@ returns-in_err-number g c =
     acts-refused now-begin c.spot.ensures c.in_err-number.was (λ known less why. (tt, spot-lacks _ _ _ _ _ _ why))
     c.from_residual.ensures.1
 
--- behind the look for the spot
+-- after the search for the spot
 pub lookup-requires : goal.lookup-requires
 lookup-requires g c =
     let now = now-kept now-begin c.spot.ensures c.requires.up c.in_ok-number.was in
@@ -32,7 +32,7 @@ returns-in_default g c =
       named = ap is_some (looked now _ _ c.lookup.ensures c.in_ok-lookup.was c.in_default.is);
     })
 
--- behind the look for the name
+-- after the search for the name
 pub room-requires : goal.room-requires
 room-requires g c =
     let now = now-read (now-kept now-begin c.spot.ensures c.requires.up c.in_ok-number.was) c.lookup.ensures
@@ -56,7 +56,7 @@ returns-in_default-2 g c =
     acts-not c.requires.up (now-read now c.room.ensures c.in_ok-place.was) refl tt
     (gap-full _ _ _ c.in_ok-number.ensures.done.0 none)
 
--- behind the look for a place
+-- after the search for a slot
 pub has_room-requires : goal.has_room-requires
 has_room-requires g c =
     let before = now-read (now-kept now-begin c.spot.ensures c.requires.up c.in_ok-number.was) c.lookup.ensures

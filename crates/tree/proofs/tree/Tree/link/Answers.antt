@@ -20,7 +20,7 @@ returns-in_default g c =
     acts-not c.requires.up (now-read now-begin c.find.ensures c.in_ok-number.was) refl
     (overflow-none _ (linked-nothing _ _ _ _ none)) (inl none)
 
--- behind the look for the old path
+-- after the search for the old path
 pub node-requires : goal.node-requires
 node-requires g c =
     let now = now-read now-begin c.find.ensures c.in_ok-number.was in
@@ -35,7 +35,7 @@ returns-in_err-node g c =
     acts-lost (now-read now-begin c.find.ensures c.in_ok-number.was) c.node.ensures c.in_err-node.was
     c.from_residual-in_err-node.ensures.1
 
--- behind the look at its node
+-- after the look at its node
 pub returns-then-node-eq-DIRECTORY : goal.returns-then-node-eq-DIRECTORY
 returns-then-node-eq-DIRECTORY g c =
     let now = now-read now-begin c.find.ensures c.in_ok-number.was in
@@ -73,7 +73,7 @@ returns-in_err-gap g c =
     known (was-now now (λ t. LacksGap t.block_limit t.files c.args.directory c.args.new.now 0
     c.in_err-gap.field-0.0) why)) c.from_residual-in_err-gap.ensures.1
 
--- behind the look for a place
+-- after the search for a slot
 pub add_link-requires : goal.add_link-requires
 add_link-requires g c =
     let before = now-read now-begin c.find.ensures c.in_ok-number.was in

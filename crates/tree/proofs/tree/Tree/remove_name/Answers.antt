@@ -23,7 +23,7 @@ returns-in_default g c =
     acts-not c.requires.up (now-read now-begin c.find_name.ensures c.in_ok-found.was) refl
     (unlinked-missing c.requires.naming _ missing) (lookup-missing c.requires.naming _ missing)
 
--- behind the look for the name
+-- after the search for the name
 pub removal-requires : goal.removal-requires
 removal-requires g c =
     let found = found-parts c.requires.naming.places _ _
@@ -53,7 +53,7 @@ returns-in_default-2 g c =
       busy = stays-busy node.0 none;
     })
 
--- behind the look at its node
+-- after the look at its node
 pub free_place-requires : goal.free_place-requires
 free_place-requires g c =
     let found = found-parts c.requires.naming.places _ _
@@ -72,7 +72,7 @@ returns-in_err-free_place g c =
     c.in_ok-is_directory.was) c.free_place.ensures c.in_err-free_place.was
     c.from_residual-in_err-free_place.ensures.1
 
--- behind the place that became free
+-- after the slot became free
 pub drop_links-requires : goal.drop_links-requires
 drop_links-requires g c =
     let files = c.args.self.now.files in

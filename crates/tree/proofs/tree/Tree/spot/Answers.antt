@@ -4,7 +4,7 @@ use Rattle.tree.proofs.Following.{told-now}
 use Rattle.tree.proofs.Naming.{above-node, spot-bare, spot-live, spot-none, spot-other}
 use Rattle.tree.proofs.tree.Tree.spot.Goals as goal
 
--- what all but the last name reach: c.in_ok-number.ensures tells it of c.in_ok-number.field-0, which the arm names
+-- what all but the last name reach: c.in_ok-number.ensures says it of c.in_ok-number.field-0, which the arm names
 
 pub returns-in_err-number : goal.returns-in_err-number
 returns-in_err-number g c = acts-lost now-begin c.reach.ensures c.in_err-number.was c.from_residual.ensures.1

@@ -28,7 +28,7 @@ returns-in_err-number g c =
     at c.in_ok-above.ensures.done.0 _ known (was-now now (λ t. unlinked t.files at ≡ None) none)
     (was-now now (λ t. LacksName t.files at c.in_err-number.field-0.0) why)) c.from_residual-in_err-number.ensures.1
 
--- behind the name that went
+-- after the removal of the name
 pub let_go-requires : goal.let_go-requires
 let_go-requires g c =
     let now = now-passed (now-kept now-begin c.spot.ensures c.requires.up c.in_ok-above.was) c.remove_name.ensures
