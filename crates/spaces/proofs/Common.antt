@@ -1,4 +1,4 @@
--- The names that the lemmas of this crate import from elsewhere, passed on from one place. Declares nothing.
+-- The names from elsewhere that the lemmas of this crate import, in one file. Declares nothing.
 pub use Rattle.std.proofs.Common.{◌%◌, ◌&&◌, ◌+◌, ◌++◌, ◌-◌, ◌/◌, ◌<◌, [], ◌^◌, All, ap, append-nil, arith, Bool, cond}
 pub use Rattle.std.proofs.Common.{drop, eqb, Err, false, get_or, get_or-set_other, get_or-set_same, IfSome}
 pub use Rattle.std.proofs.Common.{if◌then◌else◌, inl, inr, length, length-append, length-set, List, map, nat_le, nat_lt}

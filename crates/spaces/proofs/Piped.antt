@@ -14,7 +14,7 @@ use Rattle.spaces.proofs.Stepped.{here}
 use Rattle.spaces.proofs.Traded.{Shows, runs-on, same-shown, still-active}
 use Rattle.vm.specs.Shares as shares
 
--- ---- what the places for pipes show
+-- ---- what the slots for pipes show
 
 pub pipe-is : {T : Type 0} (i : Inside T) (q : ℕ) {p : Pipe} → slot i.pipes.items q ≡ Some p
     → bytes_in (spaces_of i) q ≡ bytes_of i.ram p
@@ -24,7 +24,7 @@ some-pipe_shown : (m : Ram) (o : Option Pipe) → is_some o ≡ is_some (pipe_sh
 some-pipe_shown m None = refl
 some-pipe_shown m (Some p) = refl
 
--- a place that shows a pipe has one
+-- a slot that shows a pipe has one
 pub pipe-stands : {T : Type 0} (i : Inside T) (q : ℕ) → has_pipe (spaces_of i) q ≡ true
     → is_some (slot i.pipes.items q) ≡ true
 pipe-stands i q has = some-pipe_shown i.ram (slot i.pipes.items q) ∙ ap is_some (sym (pipe-slot i.ram i.pipes.items q))
@@ -33,7 +33,7 @@ pipe-stands i q has = some-pipe_shown i.ram (slot i.pipes.items q) ∙ ap is_som
 pipes-count : {T : Type 0} (i : Inside T) → length (spaces_of i).pipes ≡ length i.pipes.items
 pipes-count i = length-map i.pipes.items (pipe_shown i.ram)
 
--- by what is read of the slice that a borrow of the places shows
+-- the pipe of a slot, read through a borrowed slice of the slots
 pub pipe-found : {T : Type 0} (i : Inside T) (q : ℕ) {xs : Pipes} {y : Option Pipe} (o : Option Pipe)
     → has_pipe (spaces_of i) q ≡ true → xs ≡ i.pipes.items → get_or xs q o ≡ y → slot i.pipes.items q ≡ y
 pipe-found i q o has same is =
@@ -65,7 +65,7 @@ pub piped-as : {T : Type 0} {held : T → Held} {i j : Inside T} (q : ℕ) {y z 
     → y ≡ z → Piped held i j q z
 piped-as {held} {i} {j} q p e = subst (λ o. Piped held i j q o) e p
 
--- one place is written, through the slice of all
+-- one slot is written, through the slice of all
 abbrev pub set_pipe : {T : Type 0} → Inside T → Ram → Frames → Pipes → ℕ → Option Pipe → Inside T
 set_pipe i k n xs q y = record i
     { ram = k; frames = n; pipes = record { items = refill (length i.pipes.items) i.pipes.items (slice_set xs q y) } }
@@ -75,7 +75,7 @@ module _ {T : Type 0} {held : T → Held} {i : Inside T} (is : IsSpaces held i) 
   pipe-holds q p e = rest-held i.ram i.frames i.places.items (pipe_frames i.pipes.items) p.frame is.machine
       (pipe-held i.pipes.items q p e)
 
-  -- the frame of a pipe isn't free, and one of the memory's
+  -- the frame of a pipe isn't free, and is one of the memory's
   pub pipe-frame : (q : ℕ) (p : Pipe) → slot i.pipes.items q ≡ Some p
       → (p.frame < length i.ram) × (among p.frame (free_of i.ram i.frames) ≡ false)
   pipe-frame q p e = held-inside i.ram i.frames p.frame is.machine.free (pipe-holds q p e)
@@ -151,7 +151,7 @@ module _ {T : Type 0} {held : T → Held} {i : Inside T} (is : IsSpaces held i) 
       → (q < length i.pipes.items) × (slot (spaces_of i).pipes q ≡ None)
   free-place q low free = (let all = is.pipes in omega (arith, low, all), none-of (slot (spaces_of i).pipes q) free)
 
-  -- a pipe comes into a free place
+  -- a pipe is made in a free slot
   pub piped-there : {n : Frames} {xs : Pipes} (q : ℕ) (p : Pipe) → q < 100 → has_pipe (spaces_of i) q ≡ false
       → xs ≡ i.pipes.items
       → IsFreeList i.ram n → free_of i.ram i.frames ≡ p.frame ∷ free_of i.ram n → extra_of n ≡ extra_of i.frames
@@ -169,7 +169,7 @@ module _ {T : Type 0} {held : T → Held} {i : Inside T} (is : IsSpaces held i) 
       let place = free-place q low free in
       omega (arith, free-taken held i is, full, taken-piped (spaces_of i) q [] (rw (pipes-count i) place.0) place.1)
 
--- an end that is open is no reason to go on
+-- an end that is open adds nothing to the test
 pub or-open : (b w : Bool) → w ≡ true → (b || not w) ≡ b
 or-open true w open_end = refl
 or-open false w open_end = rw open_end refl

@@ -1,4 +1,4 @@
--- What the fields show at a place, and how many frames the places take.
+-- What the fields show at a slot, and how many frames the slots take.
 use Rattle.spaces.proofs.Common.{Ram, Held, Frames, count_of-first, Trades, count_of, Pipe, frame_of, frames_at}
 use Rattle.spaces.proofs.Common.{pipe_frames, pipe_shown, ◌≡◌, ◌≢◌, ℕ, suc, ◌+◌, ◌<◌, List, [], ◌∷◌, length, map}
 use Rattle.spaces.proofs.Common.{slice_set, Option, Some, None, refl, ap, arith, length-map, prefix_len, cond, is_none}
@@ -13,7 +13,7 @@ use Rattle.vm.specs.Shares as shares
 use Rattle.spaces.proofs.SpacesLemmas.{Pipes, Places, map-placed, map-same}
 use Rattle.vm.proofs.PageLemmas.{pages-sized}
 
--- ---- one place
+-- ---- one slot
 
 pub pipe-slot : (m : Ram) (ps : Pipes) (q : ℕ) → slot (map (pipe_shown m) ps) q ≡ pipe_shown m (slot ps q)
 pipe-slot m ps q = get_or-map (pipe_shown m) ps q None
@@ -31,7 +31,7 @@ taken_first : (m : Ram) (ps : Pipes)
 taken_first m [] = refl
 taken_first m (o ∷ ps) = rw (is_none-shown m o) (ap (λ n. cond (not (is_none o)) (1 + n) 0) (taken_first m ps))
 
--- the lowest free place
+-- the lowest free slot
 pub free-shown : (m : Ram) (ps : Pipes) → free_slot (map (pipe_shown m) ps) ≡ free_slot ps
 free-shown m ps = rw (taken_first m ps, length-map ps (pipe_shown m)) refl
 
@@ -71,7 +71,7 @@ pipes-beside m k s n places ps new at is trades =
     (λ q. pipe-kept m k (slot ps q)
     (λ p e. trade-rest m k s n places (pipe_frames ps) new at p.frame is trades (pipe-held ps q p e)))
 
--- a place of the fields, by the slice that a borrow of them shows
+-- a slot of the fields, read through a borrowed slice of the slots
 pub there : {xs ys : Places} {x : Space} (at : ℕ) → xs ≡ ys → get_or xs at None ≡ Some x → slot ys at ≡ Some x
 there at same e = ap (λ l. get_or l at None) (sym same) ∙ e
 
@@ -86,7 +86,7 @@ some-shown : (m : Ram) (o : Option Space) → is_some o ≡ is_some (shown m o)
 some-shown m None = refl
 some-shown m (Some x) = refl
 
--- a place shows a space where it has one
+-- a slot shows a space where it has one
 pub shown-there : {T : Type 0} (i : Inside T) (at : ℕ) → is_some (slot i.places.items at) ≡ has_space (spaces_of i) at
 shown-there i at = some-shown i.ram (slot i.places.items at) ∙ ap is_some (sym (shown-slot i.ram i.places.items at))
 
@@ -144,7 +144,7 @@ sum-shown m (x ∷ xs) =
       sum-shown m xs,
     )
 
--- the free frames are all but those that the places take
+-- the free frames are all except those that the slots take
 pub free-taken : {T : Type 0} (held : T → Held) (i : Inside T) → IsSpaces held i
     → free_count i.ram i.frames + taken_frames (spaces_of i) ≡ length i.ram
 free-taken held i is =
@@ -159,7 +159,7 @@ pub taken-fits : {T : Type 0} (held : T → Held) (i : Inside T) → IsSpaces he
     → taken_frames (spaces_of i) ≤ length i.ram
 taken-fits held i is = omega (arith, free-taken held i is)
 
--- ---- the pages of a place that has a space are no more than frames, as many as its size asks for, and of 4096 bytes
+-- ---- the pages of a slot that has a space are no more than frames, as many as its size asks for, and of 4096 bytes
 -- each
 
 pub record IsWhole (memory : List Page) (size : ℕ) : Type 0 where

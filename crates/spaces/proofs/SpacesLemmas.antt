@@ -17,11 +17,11 @@ use Rattle.unixmodel.specs.ProcessCalls.{with_pages}
 use Rattle.std.proofs.lemmas.List.Elements.{All-cons, All-nil}
 use Rattle.vm.specs.declared.VmFault.TheVariants.{BadAddress}
 
--- the places for pipes
+-- the slots for pipes
 abbrev pub Pipes : Type 0
 Pipes = List (Option Pipe)
 
--- the places for spaces
+-- the slots for spaces
 abbrev pub Places : Type 0
 Places = List (Option Space)
 
@@ -30,7 +30,7 @@ within [] i x e = absurd (cc)
 within (y ∷ xs) zero x e = omega arith
 within (y ∷ xs) (suc i) x e = let h = within xs i x e in omega (arith, h)
 
--- a write of one place through the slice of all
+-- a write of one slot through the slice of all
 pub refilled : {X : Type 0} {xs ys : List (Option X)} {y z : Option X} (at : ℕ) → ys ≡ xs → z ≡ y
     → refill (length xs) xs (slice_set ys at z) ≡ slice_set xs at y
 refilled {xs = xs} {ys} {z = z} at same new =
@@ -38,7 +38,7 @@ refilled {xs = xs} {ys} {z = z} at same new =
     ∙ ap (λ l. slice_set l at z) same
     ∙ ap (slice_set xs at) new
 
--- what places show where all of them, or all but one, show what they showed
+-- what slots show where all of them, or all except one, show what they showed
 pub map-same : {X Y : Type 0} (g h : Option X → Option Y) (xs : List (Option X))
     → ((j : ℕ) → h (get_or xs j None) ≡ g (get_or xs j None)) → map h xs ≡ map g xs
 map-same g h [] same = refl
@@ -72,12 +72,12 @@ sum-placed (x ∷ xs) (suc i) y h =
       sum-placed xs i y (omega (arith, h)),
     )
 
--- the places take more by what one of them takes more
+-- all slots take more frames by what one of them takes more
 pub taken-placed : (s : Spaces) (at : ℕ) (y : Option SpaceView) → at < length s.places
     → taken_frames (with_place s at y) + frames_in (slot s.places at) ≡ taken_frames s + frames_in y
 taken-placed s at y h = omega (arith, sum-placed s.places at y h)
 
--- and as much where a fork leaves one as where a place has the same pages
+-- a fork takes as many frames as a slot with the same pages does
 pub taken-forked : (s : Spaces) (from to : ℕ) (h : SpaceView) → slot s.places from ≡ Some h → has_space s to ≡ false
     → to < length s.places → taken_frames (with_view (with_view s from (forked h)) to (forked h))
     ≡ taken_frames (with_view s to h)
@@ -98,7 +98,7 @@ taken-forked s from to h at free low =
       ap frames_in none,
     )
 
--- ---- a place after a change of one
+-- ---- a slot after a change of one
 
 pub held-same : (s : Spaces) (at : ℕ) (h : SpaceView) → at < length s.places → view_at (with_view s at h) at ≡ h
 held-same s at h within = ap (λ o. unwrap_or o no_pages) (get_or-set_same s.places at (Some h) None within)
@@ -135,7 +135,7 @@ taken-put (o ∷ xs) zero x h none = rw none (omega arith)
 taken-put (None ∷ xs) (suc i) x h none = taken-put xs i x (omega (arith, h)) none
 taken-put (Some y ∷ xs) (suc i) x h none = omega (arith, taken-put xs i x (omega (arith, h)) none)
 
--- a pipe that comes takes a frame
+-- a new pipe takes a frame
 pub taken-piped : (s : Spaces) (q : ℕ) (bytes : List ℕ) → q < length s.pipes → slot s.pipes q ≡ None
     → taken_frames (with_pipe s q (Some bytes)) ≡ taken_frames s + 1
 taken-piped s q bytes h none = omega (arith, taken-put s.pipes q bytes h none)
@@ -144,7 +144,7 @@ pub some-pipe : (o : Option (List ℕ)) → is_some o ≡ true → o ≡ Some (u
 some-pipe None e = absurd (cc)
 some-pipe (Some bytes) e = refl
 
--- ---- one after the other
+-- ---- instructions, one after the other
 
 pub advances-none : (stops : List ℕ) (s : Spaces) (at : ℕ) → Advances stops 0 s at s
 unfolding Advances
@@ -164,7 +164,7 @@ pub advances-last : (stops : List ℕ) (n : ℕ) (old new : Spaces) (at : ℕ) �
 unfolding Advances
 advances-last stops n old new at all = all
 
--- of the process of the active place
+-- for the process of the active slot
 abbrev pub AdvancesTo : List ℕ → ℕ → Option ℕ → Spaces → Spaces → Type 0
 AdvancesTo stops n o old now = IfSome o (λ at. Advances stops n old at now)
 
@@ -172,7 +172,7 @@ pub begins : (stops : List ℕ) (s : Spaces) (o : Option ℕ) → AdvancesTo sto
 begins stops s None = tt
 begins stops s (Some at) = advances-none stops s at
 
--- an instruction more
+-- one more instruction
 pub goes-on : (stops : List ℕ) (n : ℕ) (old mid new : Spaces) (o : Option ℕ) (result : Option Trap) → is_some o ≡ true
     → mid.active ≡ o → AdvancesTo stops n o old mid → IsPast stops n mid.pc → result ≡ None
     → IfNone result (IfSome mid.active (Executes mid new)) → (new.active ≡ o) × AdvancesTo stops (n + 1) o old new
@@ -220,9 +220,9 @@ computed-frames s at d h there =
       same,
     )
 
--- ---- many behind many
+-- ---- a run after a run
 
--- after some and some more
+-- after a run of a instructions and one of b
 past-sum : (stops : List ℕ) (a b : ℕ) (mid new : Spaces) (at : ℕ) → Advances stops b mid at new → IsPast stops a mid.pc
     → IsPast stops b new.pc → IsPast stops (a + b) new.pc
 past-sum stops a b mid new at all before past more = elim (cases_lt 0 b) [
@@ -248,7 +248,7 @@ advances-sum stops a (suc b) c old mid new at sum past first (last, before, does
       past-sum stops a b mid last at before past behind,
     )
 
--- after a run it is at no stop
+-- after a run the pc is at no stop
 pub behind-past : (stops : List ℕ) {done old new : ℕ} → IsBehind stops done old new → IsPast stops done new
 behind-past stops (inl go) more = go.1
 behind-past stops (inr none) more = absurd (let e = none.0 in omega (arith, e, more))
@@ -266,7 +266,7 @@ advances-on stops a b c (Some at) old mid new sum active past first last =
     let there = subst (λ (o : Option ℕ). AdvancesTo stops b o mid new) active last in
     advances-sum stops a b c old mid new at sum past first there
 
--- none behind them is, for a trap
+-- a trap: no further instruction is done
 pub stops-at : (stops : List ℕ) (n : ℕ) (o : Option ℕ) (old mid new : Spaces) (t : Trap) → is_some o ≡ true
     → mid.active ≡ o → AdvancesTo stops n o old mid → IfSome mid.active (λ at. Traps mid new at t)
     → AdvancesTo stops n o old new × IfSome o (λ at. cycle new.registers new.pc (view_at new at).memory ≡ Err t)
@@ -275,9 +275,9 @@ stops-at stops n (Some at) old mid new t some active first traps =
     let here = subst (λ (o : Option ℕ). IfSome o (λ at. Traps mid new at t)) active traps in
     rw here.1 (first, here.0)
 
--- ---- what a run told of its end
+-- ---- how a run ended
 
--- what the rest of a run told of its end, told of all
+-- how the rest of a run ended is how all of it ended
 pub ends-behind : (stops : List ℕ) (done more count pc : ℕ) → done ≤ count → EndsAt stops (count - done) more pc
     → EndsAt stops count (done + more) pc
 ends-behind stops done more count pc within (inl all) = inl (omega (arith, within, all))
@@ -294,7 +294,7 @@ trap-behind None done more count a b P same traps = tt
 trap-behind (Some t) done more count a b P same traps = let few =
     traps.0 in (omega (arith, few), subst (λ o. IfSome o (P t)) same traps.1)
 
--- ---- a string that was copied has no 0
+-- ---- a copied string has no 0
 
 -- no byte of it is 0
 abbrev pub IsPlain : List ℕ → Type 0
@@ -337,7 +337,7 @@ short-is : (o : Option (List ℕ)) → short_string 127 o ≡ short_path o
 short-is None = refl
 short-is (Some s) = refl
 
--- a path is a string of 127 bytes at the most
+-- a path is a string of at most 127 bytes
 pub path-is : (most : ℕ) (memory : Memory) (address : ℕ) → most ≡ 127
     → short_string most (string_at memory address) ≡ path_at memory address
 unfolding path_at

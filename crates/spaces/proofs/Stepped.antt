@@ -1,4 +1,4 @@
--- A step of the hart in the space of the active place.
+-- A step of the hart in the space of the active slot.
 use Rattle.spaces.proofs.Common.{Ram, Held, Alike, Narrows, changed, put_in, ◌≡◌, ◌⊎◌, ◌&&◌, inl, inr, ℕ, ◌%◌, ◌/◌, ◌^◌}
 use Rattle.spaces.proofs.Common.{◌<◌, ◌≤◌, Bool, true, false, cond, List, Option, Some, None, refl, sym, ap, ◌∙◌}
 use Rattle.spaces.proofs.Common.{option_and_then, option_map, slice_get, cases_Bool, cases_lt, memory_of, page_in}
@@ -103,7 +103,7 @@ opened-alike m r n address g made =
     ∙ ap (λ (a : Perm). a.writable) (right-leaf g true) in
     alike-at Store m r n (address / 4096) (λ h. ap (λ (b : Bool). b && (right_marks leaf).user) (wide ∙ sym right))
 
--- ---- stores go by frames alone
+-- ---- stores depend on frames alone
 
 changed-right : (m : Ram) (r n : ℕ) (c : Change) → changed m (entries_below m r n) c ≡ changed m (mapping_below m r n) c
 changed-right m r n Nothing = refl
@@ -137,8 +137,8 @@ unshared-alike m r n p leaves none = alike-at Store m r n p (λ low.
     let alone : (right_marks leaf).shared ≡ false = ap is_shared (sym (page-here right_marks m r n p low)) ∙ none in
     ap (λ (b : Bool). b && (right_marks leaf).user) (open-unshared leaf (leaves p low) alone))
 
--- what the walk lets through, beside what a program may do by right: it narrows it, and is it where no fork had the
--- page
+-- what the walk lets through, beside what a program may do by right: it is narrower, and the same for stores to a page
+-- that no fork had
 pub record IsSeen (low high : Memory) : Type 0 where
   pub narrows : Narrows low high
   pub unshared : (address : ℕ) → is_shared (slice_get high (address / 4096)) ≡ false
@@ -180,7 +180,7 @@ shows-right ram root low high down reached va access small =
 
 -- ---- one space
 
--- what an instruction writes leaves the space standing
+-- what an instruction writes leaves the space intact
 stands-only : (m k : Ram) (x : Space) → IsMapped m x → IsOnce m x → WritesOnly m (entries_of m x) k → Stands m k x
 stands-only m k x is once (inl same) = rw same (Stands-none m x is once)
 stands-only m k x is once (inr wrote) =
@@ -193,7 +193,7 @@ stands-only m k x is once (inr wrote) =
     space-stored m k x wrote.page wrote.bytes is once
     (mapping-within entry_marks m x.root.0 n wrote.page wrote.entry wrote.mapped) wide (rw frame wrote.is)
 
--- the hart may be run on the pages of a space, by what the walk lets through or by right
+-- a page that the hart may be run on is a page of the space, with that page's frame
 read-frame : (read : ℕ → Perm) (m : Ram) (x : Space) (p : ℕ) (e : Mapped)
     → slice_get (read_below read m x.root.0 (pages_in x.size)) p ≡ Some e
     → (p < pages_in x.size) × (frame_at m x.root.0 p ≡ e.frame)
@@ -251,17 +251,17 @@ module _ (m : Ram) (x : Space) (regs : List ℕ) (pc : ℕ) (is : IsMapped m x) 
         sym (again (let_through m x) (narrows m x is) (ap (option_map (λ (p : Page). p.bytes)) (none ∙ shut))) ∙ low
   ]
 
--- ---- the space of the active place
+-- ---- the space of the active slot
 
 -- the fields where the hart has run
 abbrev pub ran_by : {T : Type 0} → Inside T → T → Hart → Ram → Inside T
 ran_by i t h k = record i { ram = k; translator = t; hart = h }
 
--- what the hart does next on a memory
+-- the hart's next cycle on a memory
 abbrev pub cycle_on : {T : Type 0} → Inside T → Memory → Effect
 cycle_on i memory = cycle i.hart.registers i.hart.pc memory
 
--- what the active place comes to
+-- how the step of the active slot ends
 abbrev pub Stopped : Option ℕ → Spaces → Spaces → Trap → Type 0
 Stopped a old new c = IfSome a (λ at. Traps old new at c)
 
@@ -289,7 +289,7 @@ run-at {held} {i} {at} x is e stands =
     let same : run.0 ≡ x = cc in
     subst (λ (d : Space). IsRun held i at d) same run.1
 
--- the spaces stand in a memory, and the tables of the one that runs show what they showed
+-- the spaces are intact in a memory, and the tables of the running one show what they showed
 pub record IsHere {T : Type 0} (i : Inside T) (x : Space) (m : Ram) : Type 0 where
   pub machine : IsMachine m i.frames i.places.items (pipe_frames i.pipes.items)
   pub entries : entries_of m x ≡ entries_of i.ram x
@@ -419,7 +419,7 @@ same-value : (v : Spaces) (at : ℕ) (y : Option SpaceView) → slot v.places at
 same-value v at y e = ap (λ (l : List (Option SpaceView)). record v { places = l })
     (ap (slice_set v.places at) (sym e) ∙ set-get_or v.places at None)
 
--- what is told of the active place
+-- what holds of slot `at` holds of the active slot
 for-active : {a : Option ℕ} {at : ℕ} (P : ℕ → Type 0) → a ≡ Some at → P at → IfSome a P
 for-active P e p = rw e p
 
@@ -499,7 +499,7 @@ module _ {T : Type 0} {held : T → Held} {i : Inside T} {t : T} {h : Hart} {k :
       trap-at c e (trap-right i.ram x i.hart.registers i.hart.pc (r.is.machine.each at x r.stands).dense c left.low
       none)
 
-  -- so the space stands
+  -- so the space is intact
   pub trap-space : (c : Trap) → result ≡ Some c → IsSpace k x i.frames
   trap-space c e = subst (λ (m : Ram). IsSpace m x i.frames) (sym (trapped c e).memory)
       (r.is.machine.each at x r.stands)
@@ -521,7 +521,7 @@ module _ {T : Type 0} {held : T → Held} {i : Inside T} {t : T} {h : Hart} {k :
         pages = arranged.pages;
       })
 
-  -- a store that faulted, once more where its page was opened
+  -- a store that faulted is done again, once its page was opened
   same-again : (m : Ram) (c : Trap) (g : Perm) → result ≡ Some c → c.cause ≡ StorePageFault → IsMapped m x
       → pages_of m x ≡ pages_of i.ram x → marks_at m x.root.0 (c.address / 4096) ≡ user_leaf g true
       → cycle_on i (let_through m x) ≡ cycle_on i (pages_of m x)
@@ -540,7 +540,7 @@ outcome : {T : Type 0} {held : T → Held} {i : Inside T} {t : T} {h : Hart} {k 
 outcome None r s right = (step-done r s refl, tt)
 outcome (Some c) r s right = (tt, trap-at r s c refl (sym right ∙ (trapped r s c refl).low))
 
--- what the second step did, by the values before the first: j are the fields between
+-- what the second step did, in terms of the values before the first: j are the fields between
 pub second : {T : Type 0} {held : T → Held} {i j : Inside T} {t u : T} {h o : Hart} {k l : Ram}
     {result again : Option Trap} {at : ℕ} {x : Space} (c : Trap) (g : Perm) → IsRun held i at x
     → Steps held i t h k result → result ≡ Some c → c.cause ≡ StorePageFault
@@ -551,7 +551,7 @@ second {j} {u} {o} {l} {again} {at} {x} c g r s e store re made next =
     subst (λ (v : Spaces). Comes j.active v (spaces_of (ran_by j u o l)) again) re.view
     (outcome again re.run next (rw re.hart right))
 
--- ---- instructions of the process of a place, as the hart ran them
+-- ---- instructions of the process of a slot, as the hart ran them
 
 module _ {T : Type 0} {held : T → Held} {i : Inside T} {at : ℕ} {x : Space} (r : IsRun held i at x) where
   here-reached : (n : ℕ) (m : Ram) → Reaches n (entries_of i.ram x) i.ram m → IsHere i x m
@@ -616,7 +616,7 @@ module _ {T : Type 0} {held : T → Held} {i : Inside T} {t : T} {h : Hart} {k :
         all.1,
       )
 
-  -- the spaces behind it
+  -- the spaces after the run
   ran-at : (stopped : Option Trap) → RanOn held i t h k stops done stopped
       → IsSpaces held (ran_by i t h k) × Advances stops done (spaces_of i) at (spaces_of (ran_by i t h k))
   ran-at stopped o =
@@ -627,7 +627,7 @@ module _ {T : Type 0} {held : T → Held} {i : Inside T} {t : T} {h : Hart} {k :
         all.0,
       )
 
-  -- the trap behind it, but for a store, is one by right, too
+  -- the trap after the run, except for a store's, is one by right, too
   stops-right : (c : Trap) → RanOn held i t h k stops done (Some c) → (c.cause ≡ StorePageFault → ⊥)
       → cycle h.registers h.pc (view_at (spaces_of (ran_by i t h k)) at).memory ≡ Err c
   stops-right c o other =
@@ -646,7 +646,7 @@ pub ran-sound : {T : Type 0} {held : T → Held} {i : Inside T} {t : T} {h : Har
 ran-sound None is o e some = absurd (cc)
 ran-sound (Some at) is o e some = ran-at (run-of is e).1 _ o
 
--- the next instruction traps into what it told, but where that is a store
+-- the next instruction raises the trap that the run returned, except where that is a store's
 pub ran-trap : {T : Type 0} {held : T → Held} {i : Inside T} {t : T} {h : Hart} {k : Ram} {stops : List ℕ} {done : ℕ}
     (stopped : Option Trap) (a : Option ℕ) → IsSpaces held i → RanOn held i t h k stops done stopped → i.active ≡ a
     → IfSome stopped (λ c. (c.cause ≡ StorePageFault → ⊥)

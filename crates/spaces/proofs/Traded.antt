@@ -1,4 +1,4 @@
--- One place trades frames: what is left of the fields, and what they show then; and spaces over duplicates.
+-- One slot trades frames: what is left of the fields, and what they show then; and spaces over duplicates.
 use Rattle.spaces.proofs.Common.{Ram, Held, ◌+◌, ◌++◌, ◌-◌, ◌<◌, [], ap, arith, Bool, Err, false, get_or-set_other}
 use Rattle.spaces.proofs.Common.{get_or-set_same, inl, inr, length, length-append, length-set, List, map, None, Ok}
 use Rattle.spaces.proofs.Common.{Option, refl, replicate, Result, slice_set, Some, subst, sym, take, true, ℕ, ◌∙◌, ◌≡◌}
@@ -17,11 +17,11 @@ use Rattle.spaces.proofs.SpacesLemmas.{Places, map-placed, place-free, refilled,
 use Rattle.vm.specs.Shares as shares
 use Rattle.vm.proofs.SharesLemmas.{same-machine}
 
--- a place that stays
+-- a slot that stays
 pub same-place : (xs : Places) (at : ℕ) (x : Space) → slot xs at ≡ Some x → xs ≡ slice_set xs at (Some x)
 same-place xs at x e = sym (ap (slice_set xs at) (sym e) ∙ set-get_or xs at None)
 
--- ---- what the places show
+-- ---- what the slots show
 
 pub same-shown : (m k : Ram) (o : Option Space) → ((x : Space) → o ≡ Some x → IsUntouched m k x) → shown k o ≡ shown m o
 same-shown m k None h = refl
@@ -35,7 +35,7 @@ shown-placed m k places at y others =
 
 -- ---- what the hart runs
 
--- what the active place runs, by what any place would
+-- what the active slot runs, from what holds of any slot
 pub still-active : (old new : Held) (m k : Ram) (root : ℕ) (places q : Places) (a : Option ℕ)
     → ((j : ℕ) → a ≡ Some j → Runs old m root places j → Runs new k root q j) → IsActive old m root places a
     → IsActive new k root q a
@@ -53,7 +53,7 @@ runs-on run stands stays fewer =
       coherent = rw stays.entries (record { walks = λ t h root. run.coherent.walks t (fewer t h) root });
     }
 
--- the space of the active place changes, and keeps its root
+-- the space of the active slot changes, and keeps its root
 runs-changed : (old new : Held) (m k : Ram) (root : ℕ) (places : Places) (at : ℕ) (x z : Space) → at < length places
     → slot places at ≡ Some x → z.root ≡ x.root
     → (IsCoherent old x.root.0 (entries_of m x) → IsCoherent new x.root.0 (entries_of k z))
@@ -86,7 +86,7 @@ pub record Shows {T : Type 0} (held : T → Held) (i j : Inside T) (v : Spaces) 
   pub view : spaces_of j ≡ v
   pub fits : taken_frames v ≤ length i.ram
 
--- after a change of one place, which shows this
+-- after a change of one slot, which shows this
 abbrev pub Placed : {T : Type 0} → (T → Held) → Inside T → Inside T → ℕ → Option SpaceView → Type 0
 Placed held i j at y = Shows held i j (with_place (spaces_of i) at y)
 
@@ -94,7 +94,7 @@ pub placed-as : {T : Type 0} {held : T → Held} {i j : Inside T} (at : ℕ) {y 
     → Placed held i j at y → y ≡ z → Placed held i j at z
 placed-as {held} {i} {j} at p e = subst (λ (o : Option SpaceView). Placed held i j at o) e p
 
--- one place is written, through the slice of all
+-- one slot is written, through the slice of all
 abbrev pub set_in : {T : Type 0} → Inside T → Ram → Frames → T → Places → ℕ → Option Space → Inside T
 set_in i k n t xs at y =
     record i {
@@ -105,7 +105,7 @@ set_in i k n t xs at y =
     }
 
 module _ {T : Type 0} {held : T → Held} {i : Inside T} (is : IsSpaces held i) where
-  -- one place has another space, where a place traded with the free frames
+  -- one slot has another space, where a slot traded with the free frames
   placed : (at from : ℕ) (y : Option Space) (k : Ram) (n : Frames) (t : T) (q : Places) (new : List ℕ)
       (places : List (Option SpaceView))
       → q ≡ slice_set i.places.items at y → IsMachine k n (slice_set i.places.items at y) (pipe_frames i.pipes.items)
@@ -165,7 +165,7 @@ module _ {T : Type 0} {held : T → Held} {i : Inside T} (is : IsSpaces held i) 
   free-place at low free =
       (let all = is.all in omega (arith, low, all), free-is i at (place-free (spaces_of i) at free))
 
-  -- a space that was made settles in a free place
+  -- a space that was made is put in a free slot
   pub settled-there : {k : Ram} {n : Frames} {xs : Places} (at : ℕ) (z : Space) → at < 64
       → has_space (spaces_of i) at ≡ false → xs ≡ i.places.items → IsSpace k z n
       → Trades i.ram k i.frames n [] (holds k z) → z.size ≡ 0
@@ -177,7 +177,7 @@ module _ {T : Type 0} {held : T → Held} {i : Inside T} (is : IsSpaces held i) 
       (λ x h. h) (λ a run. absurd (let bad : None ≡ Some run.space = sym place.1 ∙ run.stands in cc)))
       (shown-as k z [] 0 none bare)
 
-  -- or one that shares the frames of another one's
+  -- or one that shares the frames of another
   pub shared-there : {k : Ram} {n : Frames} {xs : Places} (from to : ℕ) (x z : Space) (t : T) → to < 64
       → has_space (spaces_of i) to ≡ false → xs ≡ i.places.items → slot i.places.items from ≡ Some x
       → IsSpace k x n → IsSpace k z n → Trades i.ram k i.frames n (holds i.ram x) (holds k x ++ holds k z)
@@ -218,7 +218,7 @@ module _ {T : Type 0} {held : T → Held} {i : Inside T} (is : IsSpaces held i) 
       (fork-machine i.ram k i.frames n all (pipe_frames i.pipes.items) from to x z is.machine stands place.0 place.1
       parent child trades) active fewer shows first)
 
-  -- a place that isn't the active one loses its space
+  -- a slot that isn't the active one loses its space
   pub destroyed : {k : Ram} {n : Frames} {xs : Places} {y : Option Space} (at : ℕ) (x : Space)
       → slot i.places.items at ≡ Some x → i.active ≢ Some at → xs ≡ i.places.items → y ≡ None → IsFreeList k n
       → Trades i.ram k i.frames n (holds i.ram x) []
@@ -227,7 +227,7 @@ module _ {T : Type 0} {held : T → Held} {i : Inside T} (is : IsSpaces held i) 
       traded at None k n i.translator _ (within i.places.items at x stands) (refilled at same gone) free
       (rw stands trades) (λ t h. h) (λ a run. absurd (idle a))
 
-  -- the space of a place changes, and keeps its root
+  -- the space of a slot changes, and keeps its root
   pub changed : {k : Ram} {n : Frames} {q : Places} (at : ℕ) (x z : Space) (t : T) → slot i.places.items at ≡ Some x
       → q ≡ slice_set i.places.items at (Some z) → IsSpace k z n → Trades i.ram k i.frames n (holds i.ram x) (holds k z)
       → z.root ≡ x.root → ((u : Translation) → held t u → held i.translator u)
@@ -241,8 +241,8 @@ module _ {T : Type 0} {held : T → Held} {i : Inside T} (is : IsSpaces held i) 
       (λ a run. runs-changed (held i.translator) (held t) i.ram k i.hart.root.0 i.places.items
       at x z hi stands root (coherent a) run)
 
-  -- pages of a space are written, and may have other frames: then nothing is held for the active place. It shows this
-  -- memory then
+  -- pages of a space are written, and may have other frames: then nothing is held for the active slot, which shows this
+  -- memory
   pub reframed-showing : (at : ℕ) (x : Space) (k : Ram) (n : Frames) (t : T) (memory : Memory)
       → slot i.places.items at ≡ Some x → Reframes i.ram k x i.frames n
       → ((u : Translation) → held t u → held i.translator u)
@@ -253,7 +253,7 @@ module _ {T : Type 0} {held : T → Held} {i : Inside T} (is : IsSpaces held i) 
       (λ a was. coherent-nothing (held t) x.root.0 (entries_of k x) (fenced a)))
       (shown-as k x memory x.size pages refl)
 
-  -- a page of a space is written where it stands, so what is held stays: it shows this memory then
+  -- a page of a space is written in its own frame, so what is held stays: the slot shows this memory then
   stood-showing : (at : ℕ) (x : Space) (k : Ram) (memory : Memory) → slot i.places.items at ≡ Some x → Stands i.ram k x
       → pages_of k x ≡ memory → Placed held i (record i { ram = k }) at (Some (view_with memory x.size))
   stood-showing at x k memory e s pages =
@@ -302,7 +302,7 @@ grown-front m k s n x z (Err f) front same =
 -- ---- refusals
 
 module _ {T : Type 0} {held : T → Held} {i : Inside T} (is : IsSpaces held i) where
-  -- the frames don't suffice for what a place would have
+  -- the frames don't suffice for what a slot would have
   over : (at : ℕ) (o : Option Space) (y : Option SpaceView) → at < length i.places.items → slot i.places.items at ≡ o
       → frames_in (shown i.ram o) + free_count i.ram i.frames < frames_in y
       → length i.ram < taken_frames (with_place (spaces_of i) at y)
@@ -352,7 +352,7 @@ module _ {T : Type 0} {held : T → Held} {i : Inside T} (is : IsSpaces held i) 
         | inr full ↦ omega (arith, now, takes, more, full)
       ])
 
--- ---- spaces over duplicates of what they stand on
+-- ---- spaces over duplicates of the memory and the frames
 
 -- the parts of a duplicate, with a translator that is fenced
 pub record IsParts {T U : Type 0} (held : U → Held) (i : Inside T) (j : Inside U) : Type 0 where

@@ -20,7 +20,7 @@ pub record SpaceView : Type 0 where
 pub record Spaces : Type 0 where
   -- 64 of them, each free or with a space
   pub places : List (Option SpaceView)
-  -- the place whose process the hart runs
+  -- the slot whose process the hart runs
   pub active : Option ℕ
   -- x0 to x31 of the hart
   pub registers : List ℕ
@@ -30,7 +30,7 @@ pub record Spaces : Type 0 where
   -- 100 of them, each free or with the bytes of a pipe, the oldest first
   pub pipes : List (Option (List ℕ))
 
--- no space and no pipe over so many frames
+-- no space and no pipe over that many frames
 abbrev pub no_spaces : ℕ → Spaces
 no_spaces frames = record {
   places = replicate 64 None;
@@ -41,7 +41,7 @@ no_spaces frames = record {
   pipes = replicate 100 None;
 }
 
--- ---- places
+-- ---- slots
 
 abbrev pub has_space : Spaces → ℕ → Bool
 has_space s at = is_some (slot s.places at)
@@ -50,11 +50,11 @@ has_space s at = is_some (slot s.places at)
 abbrev pub no_pages : SpaceView
 no_pages = record { memory = []; size = 0 }
 
--- what the space of a place shows, and no pages where the place is free
+-- what the space of a slot shows, or no pages where the slot is free
 abbrev pub view_at : Spaces → ℕ → SpaceView
 view_at s at = unwrap_or (slot s.places at) no_pages
 
--- a place has another space, or none
+-- a slot has another space, or none
 abbrev pub with_place : Spaces → ℕ → Option SpaceView → Spaces
 with_place s at place = record s { places = slice_set s.places at place }
 
@@ -63,18 +63,18 @@ with_view s at held = with_place s at (Some held)
 
 -- ---- other memories
 
--- so many bytes more: the pages that come are 0 and have these marks
+-- n more bytes: new pages are 0 and have these marks
 abbrev pub grown : SpaceView → ℕ → Perm → SpaceView
 grown h bytes marks = record {
   memory = h.memory ++ replicate (ceil_div (h.size + bytes) 4096 - ceil_div h.size 4096) (zero_page marks);
   size = h.size + bytes;
 }
 
--- the space of a place gets so many bytes more
+-- the space of a slot grows by that many bytes
 abbrev pub grown_at : Spaces → ℕ → ℕ → Perm → Spaces
 grown_at s at bytes marks = with_view s at (grown (view_at s at) bytes marks)
 
--- so many bytes fewer
+-- n bytes fewer
 abbrev pub shrunk : SpaceView → ℕ → SpaceView
 shrunk h bytes = record { memory = take (ceil_div (h.size - bytes) 4096) h.memory; size = h.size - bytes }
 
@@ -82,19 +82,19 @@ shrunk h bytes = record { memory = take (ceil_div (h.size - bytes) 4096) h.memor
 abbrev pub forked : SpaceView → SpaceView
 forked h = record h { memory = shared_memory h.memory }
 
--- place `to` has the pages of place `from`, by a fork
+-- slot `to` has the pages of slot `from`, by a fork
 abbrev pub copied : Spaces → ℕ → ℕ → Spaces
 copied s from to = with_view (with_view s from (forked (view_at s from))) to (forked (view_at s from))
 
--- these bytes stand from an address on
+-- these bytes are written from an address on
 abbrev pub written : SpaceView → ℕ → List ℕ → SpaceView
 written h address bytes = record h { memory = write_bytes h.memory address bytes }
 
--- what the instruction at the pc means to the hart and the program of a place
+-- what the instruction at the pc means to the hart and the program of a slot
 abbrev pub cycle_at : Spaces → ℕ → Result Computed Trap
 cycle_at s at = cycle s.registers s.pc (view_at s at).memory
 
--- the hart and the space of a place after an instruction
+-- the hart and the space of a slot after an instruction
 abbrev pub computed : Spaces → ℕ → Computed → Spaces
 computed s at d = with_view
     (record s { registers = d.regs; pc = d.pc })
@@ -103,12 +103,12 @@ computed s at d = with_view
 
 -- ---- frames
 
--- the frames that a place takes: those of the pages, the root, two tables for the trap frame, and that frame
+-- the frames that a slot takes: those of the pages, the root, two tables for the trap frame, and that frame
 abbrev pub frames_in : Option SpaceView → ℕ
 frames_in None = 0
 frames_in (Some h) = 4 + page_frames (length h.memory)
 
--- the frames that all places take, and a frame for each pipe
+-- the frames that all slots take, and a frame for each pipe
 abbrev pub taken_frames : Spaces → ℕ
 taken_frames s = sum_by frames_in s.places + length (taken s.pipes)
 
@@ -125,30 +125,30 @@ Lacks old new wanted = (old.frames < taken_frames wanted) × (new ≡ old)
 abbrev pub has_pipe : Spaces → ℕ → Bool
 has_pipe s q = is_some (slot s.pipes q)
 
--- the bytes of a pipe, and none where its place is free
+-- the bytes of a pipe, or none where its slot is free
 abbrev pub bytes_in : Spaces → ℕ → List ℕ
 bytes_in s q = unwrap_or (slot s.pipes q) []
 
--- a place for pipes has another pipe, or none
+-- a slot for pipes has another pipe, or none
 abbrev pub with_pipe : Spaces → ℕ → Option (List ℕ) → Spaces
 with_pipe s q pipe = record s { pipes = slice_set s.pipes q pipe }
 
--- what fits of bytes behind those that a pipe holds, and what it holds then
+-- what fits of bytes after those that a pipe holds, and what it holds then
 abbrev pub fitting : List ℕ → List ℕ → List ℕ
 fitting held new = take (pipe_room - length held) new
 
 abbrev pub filled : List ℕ → List ℕ → List ℕ
 filled held new = held ++ fitting held new
 
--- bytes come behind those of a pipe, as many as fit
+-- bytes are appended to those of a pipe, as many as fit
 abbrev pub put_behind : Spaces → ℕ → List ℕ → Spaces
 put_behind s q bytes = with_pipe s q (Some (filled (bytes_in s q) bytes))
 
--- the bytes from an address on that a program may read, so many at the most
+-- the bytes from an address on that a program may read, at most `count`
 abbrev pub read_at : SpaceView → ℕ → ℕ → List ℕ
 read_at h address count = take count (reach Load h.memory address)
 
--- bytes of a pipe are taken to an address of a place, so many at the most
+-- bytes of a pipe are moved to an address of a slot, at most `count`
 abbrev pub taken_to : Spaces → ℕ → ℕ → ℕ → ℕ → Spaces
 taken_to s q at address count = with_pipe
     (with_view s at (written (view_at s at) address (take count (bytes_in s q))))
@@ -157,7 +157,7 @@ taken_to s q at address count = with_pipe
 
 -- ---- a step
 
--- the space of a place is advanced by the instruction at the pc
+-- the space of a slot is advanced by the instruction at the pc
 abbrev pub Executes : Spaces → Spaces → ℕ → Type 0
 Executes old new at = (d : Computed) × (cycle_at old at ≡ Ok d) × (new ≡ computed old at d)
 

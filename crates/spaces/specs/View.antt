@@ -1,4 +1,4 @@
--- What the fields stand for.
+-- What the fields represent.
 use Rattle.std.specs.Prelude.{List, None, Option, Some, [], length, map, option_and_then, ℕ, ◌/◌, ◌<◌, ◌^◌, ◌∷◌, ◌≡◌}
 use Rattle.std.specs.List.{flat_map}
 use Rattle.pipe.specs.Pipe.{Pipe, bytes_of}
@@ -21,12 +21,12 @@ use Rattle.vm.specs.Space.{entries_of, pages_in, pages_of}
 abbrev pub view_with : Memory → ℕ → SpaceView
 view_with memory size = record { memory = memory; size = size }
 
--- what a place shows over a memory
+-- what a slot shows over a memory
 abbrev pub shown : List (List ℕ) → Option Space → Option SpaceView
 shown m None = None
 shown m (Some x) = Some (view_with (pages_of m x) x.size)
 
--- what a place for pipes shows
+-- what a slot for pipes shows
 abbrev pub pipe_shown : List (List ℕ) → Option Pipe → Option (List ℕ)
 pipe_shown m None = None
 pipe_shown m (Some p) = Some (bytes_of m p)
@@ -49,7 +49,7 @@ spaces_of k = record {
   pipes = map (pipe_shown k.ram) k.pipes.items;
 }
 
--- addresses from a root go through the space of a place, and what is held is what the tables of that space show
+-- addresses from a root go through the space of a slot, and what is held is what the tables of that space show
 pub record Runs (held : translation.Held) (m : List (List ℕ)) (root : ℕ) (places : List (Option Space)) (at : ℕ) : Type
     0 where
   pub space : Space
@@ -61,7 +61,7 @@ abbrev pub IsActive : translation.Held → List (List ℕ) → ℕ → List (Opt
 IsActive held m root places None = Unit {0}
 IsActive held m root places (Some at) = Runs held m root places at
 
--- The spaces, the pipes and the free list share out all frames, and the hart runs the active place.
+-- The spaces, the pipes and the free list share out all frames, and the hart runs the active slot.
 pub record IsSpaces {T : Type 0} (held : T → translation.Held) (k : Inside T) : Type 0 where
   pub machine : IsMachine k.ram k.frames k.places.items (pipe_frames k.pipes.items)
   pub all : length k.places.items ≡ 64

@@ -1,4 +1,4 @@
-//! Many instructions of the process of the active place.
+//! Many instructions of the process of the active slot.
 ghost use Rattle.std.specs.Prelude.{◌≡◌, ◌<◌, ◌≤◌, Err, IfNone, IfSome, is_some, true};
 ghost use Rattle.std.specs.Bool.{OnFalse};
 ghost use Rattle.hart.specs.Stops.{EndsAt, IsBehind, is_stop};
@@ -31,8 +31,8 @@ impl<T: Translate> Spaces<T> {
         stops.has(self.hart.pc)
     }
 
-    // Does at most so many instructions in the memory of the active place, up to the first that its pages don't let
-    // through, and no further than to a stop: how many, and what that one traps into. A store that faulted may be one
+    // Does at most `count` instructions in the memory of the active slot, up to the first that its pages don't let
+    // through or to a stop. Returns how many were done, and the trap of the next one. A store that faulted may be one
     // to a closed page, which `execute` does.
     #[inline(always)]
     fn run<S: Stops>(&mut self, count: u32, stops: &S) -> (u32, Option<Trap>)
@@ -56,7 +56,7 @@ impl<T: Translate> Spaces<T> {
         )
     }
 
-    // What `execute` does, out of line: few instructions need it, and the way of the others is short.
+    // What `execute` does, out of line: few instructions need it, and the path of the others is short.
     #[inline(never)]
     fn execute_one(&mut self) -> Option<Trap>
         requires { is_some self.old.active ≡ true }
@@ -66,8 +66,8 @@ impl<T: Translate> Spaces<T> {
         self.execute()
     }
 
-    /// Does so many instructions in the memory of the active place, up to the first that isn't done, and no further
-    /// than to a stop after the first of them: how many were done, and why the next one isn't. Each is done as
+    /// Does at most `count` instructions in the memory of the active slot, up to the first that isn't done or to a stop
+    /// after the first of them. Returns how many were done, and why the next one isn't. Each is done as
     /// `execute` does it.
     #[inline(always)]
     pub fn execute_many<S: Stops>(&mut self, count: u32, stops: &S) -> (u32, Option<Trap>)
@@ -89,8 +89,8 @@ impl<T: Translate> Spaces<T> {
         (done, Some(Trap { cause, address }))
     }
 
-    // The same, of which the first may be a store to a closed page. It is out of line: few instructions need it, and
-    // the way from a call to the next is short.
+    // The same, where the first may be a store to a closed page. It is out of line: few instructions need it, and
+    // the path from a call to the next is short.
     #[inline(never)]
     fn execute_behind<S: Stops>(&mut self, count: u32, stops: &S) -> (u32, Option<Trap>)
         requires { is_some self.old.active ≡ true }

@@ -1,14 +1,14 @@
 //! The address spaces of a machine, over the frames of one memory.
 //!
-//! There are 64 places, each free or with a space, and a hart, which runs the process of the active place. Beside them
-//! are 100 places for pipes, whose bytes lie in the same memory. What the processes are, and who may read or write a
-//! pipe, is the caller's affair. Contracts are in plain values, `Spaces` of `specs/Spaces`: the memory of each place,
+//! There are 64 slots, each free or with a space, and a hart, which runs the process of the active slot. Beside them
+//! are 100 slots for pipes, whose bytes lie in the same memory. What the processes are, and who may read or write a
+//! pipe, is the caller's affair. Contracts are in plain values, `Spaces` of `specs/Spaces`: the memory of each slot,
 //! the bytes of each pipe, the hart's registers, and how many frames there are. No frame and no table shows, and what
-//! is done to one place leaves the others as they are.
+//! is done to one slot leaves the others as they are.
 //!
 //! Spaces may share frames: a copy has those of its source, and a page gets a frame of its own before it is written.
 //!
-//! A translator may hold translations, so it is fenced where one that it may hold for the active place goes: where
+//! A translator may hold translations, so it is fenced where one that it may hold for the active slot goes: where
 //! another space becomes the active one, and where the active one shrinks, is copied, so that its pages are closed, or
 //! is written where a page may get another frame. A space that grows keeps the frames that it had, one that is written
 //! at an open page does, and what is held for spaces that aren't active doesn't count.
@@ -56,17 +56,17 @@ use sv39::Translate;
 use unixmodel::trap::{Access, Cause, Trap};
 use vm::{Perm, Space};
 
-/// How many places there are.
+/// How many slots there are.
 pub const PLACES: usize = 64;
 
-/// How many places for pipes there are.
+/// How many slots for pipes there are.
 pub const PIPES: usize = 100;
 
-// A read or a write of a pipe by so many bytes at the most takes a buffer of that size: one of a pipe costs more than
-// the call.
+// A read or a write of a pipe by at most that many bytes takes a buffer of that size: a buffer of a pipe's size costs
+// more than the call.
 const SHORT: usize = 64;
 
-// A free place.
+// A free slot.
 const FREE: Option<Space> = None;
 
 /// The address spaces of a machine and its hart.
@@ -94,7 +94,7 @@ impl<T: Translate> Model for Spaces<T> {
     ghost invariant = { IsSpaces T.held };
 }
 
-// Fences a translator where this place is the active one.
+// Fences a translator where this slot is the active one.
 fn fence_active<T: Translate>(translator: &mut T, active: Option<usize>, at: usize)
     ensures fenced { active ≡ Some at → HoldsNothing (T.held translator.new) }
     ensures fewer { (t : Translation) → T.held translator.new t → T.held translator.old t }
@@ -144,7 +144,7 @@ fn closed_page(space: &Space, ram: &Ram, trap: Trap) -> Option<u64>
     }
 }
 
-// The space of a place that has one.
+// The space of a slot that has one.
 fn space_at(places: &ArrayVec<Option<Space>, 64>, at: usize) -> &Space
     requires { is_some (slot places.now.items at) ≡ true }
     ensures { slot places.now.items at ≡ Some result.now }
@@ -155,14 +155,14 @@ fn space_at(places: &ArrayVec<Option<Space>, 64>, at: usize) -> &Space
     }
 }
 
-// Whether a place has a space.
+// Whether a slot has a space.
 fn stands(places: &ArrayVec<Option<Space>, 64>, at: usize) -> bool
     ensures { result ≡ is_some (slot places.now.items at) }
 {
     matches!(places.as_slice().get(at), Some(Some(_)))
 }
 
-// The pipe of a place that has one.
+// The pipe of a slot that has one.
 fn pipe_at(pipes: &ArrayVec<Option<Pipe>, 100>, q: usize) -> &Pipe
     requires { is_some (slot pipes.now.items q) ≡ true }
     ensures { slot pipes.now.items q ≡ Some result.now }
@@ -173,7 +173,7 @@ fn pipe_at(pipes: &ArrayVec<Option<Pipe>, 100>, q: usize) -> &Pipe
     }
 }
 
-// The pipe of a place, if it has one.
+// The pipe of a slot, if it has one.
 fn pipe_in(pipes: &ArrayVec<Option<Pipe>, 100>, q: usize) -> Option<&Pipe>
     ensures { option_copied result ≡ slot pipes.now.items q }
 {
@@ -183,7 +183,7 @@ fn pipe_in(pipes: &ArrayVec<Option<Pipe>, 100>, q: usize) -> Option<&Pipe>
     }
 }
 
-// The lowest free place for pipes.
+// The lowest free slot for pipes.
 fn lowest_free(pipes: &[Option<Pipe>]) -> Option<usize>
     ensures place { result ≡ free_slot pipes.now }
     ensures within { IfSome result (λ q. q < length pipes.now) }
@@ -223,7 +223,7 @@ fn all_of(registers: &[u64; 32])
     ensures { length registers.now ≡ 32 }
 {}
 
-// The same spaces in the same places, in a duplicate of the memory.
+// The same spaces in the same slots, in a duplicate of the memory.
 fn duplicate_places(places: &ArrayVec<Option<Space>, 64>) -> ArrayVec<Option<Space>, 64>
     ensures { result ≡ places.now }
 {
@@ -237,7 +237,7 @@ fn duplicate_places(places: &ArrayVec<Option<Space>, 64>) -> ArrayVec<Option<Spa
     copies
 }
 
-// The same pipes in the same places, whose bytes stand in a duplicate of the memory.
+// The same pipes in the same slots, whose bytes lie in a duplicate of the memory.
 fn duplicate_pipes(pipes: &ArrayVec<Option<Pipe>, 100>) -> ArrayVec<Option<Pipe>, 100>
     ensures { result ≡ pipes.now }
 {
@@ -282,11 +282,11 @@ impl<T: Translate> Spaces<T> {
         })
     }
 
-    /// The same spaces, pipes and registers over a duplicate of the memory, with a translator of its own. That one is
+    /// The same spaces, pipes and registers over a duplicate of the memory, with a translator of its own, which is
     /// fenced: it may hold anything.
     ///
-    /// It takes 4098 bytes a frame of the host, and 768 KiB for decoded words, of which it has none yet: `NoMemory`
-    /// where it has none for them.
+    /// It takes 4098 bytes a frame of the host, and 768 KiB for decoded words, of which none are decoded yet:
+    /// `NoMemory` where it has none for them.
     pub fn duplicate<U: Translate>(
         &self,
         alloc: Global,
@@ -318,7 +318,7 @@ impl<T: Translate> Spaces<T> {
         self.frames.free()
     }
 
-    /// A law: what is taken of the frames is no more than there are. It runs no code.
+    /// A law: no more frames are taken than there are. It runs no code.
     #[inline]
     pub fn frames_suffice(&self)
         ensures { taken_frames self.now ≤ self.now.frames }
@@ -326,7 +326,7 @@ impl<T: Translate> Spaces<T> {
         let _frames = &self.frames;
     }
 
-    /// The active place, which has a space.
+    /// The active slot, which has a space.
     pub fn active(&self) -> Option<usize>
         ensures active { result ≡ self.now.active }
         ensures stands { IfSome result (λ at. has_space self.now at ≡ true) }
@@ -335,14 +335,14 @@ impl<T: Translate> Spaces<T> {
         self.active
     }
 
-    /// Whether a place has a space.
+    /// Whether a slot has a space.
     pub fn has_space(&self, at: usize) -> bool
         ensures { result ≡ has_space self.now at }
     {
         stands(&self.places, at)
     }
 
-    /// The size of a place's space in bytes.
+    /// The size of a slot's space in bytes.
     pub fn size(&self, at: usize) -> u64
         requires { has_space self.now at ≡ true }
         ensures { result ≡ (view_at self.now at).size }
@@ -351,7 +351,7 @@ impl<T: Translate> Spaces<T> {
         space.size()
     }
 
-    /// How many pages a place's space has.
+    /// How many pages a slot's space has.
     pub fn pages(&self, at: usize) -> u64
         requires { has_space self.now at ≡ true }
         ensures count { result ≡ length (view_at self.now at).memory }
@@ -361,7 +361,7 @@ impl<T: Translate> Spaces<T> {
         vm::pages_in(space.size())
     }
 
-    /// A law: the pages of a place's space are no more than there can be frames, as many as its size asks for, and of
+    /// A law: the pages of a slot's space are no more than there can be frames, as many as its size asks for, and of
     /// 4096 bytes each. It runs no code.
     #[inline]
     pub fn pages_are_whole(&self, at: usize)
@@ -373,7 +373,7 @@ impl<T: Translate> Spaces<T> {
         self.ram.frames_are_whole();
     }
 
-    /// Whether the program of a place may read so many bytes.
+    /// Whether the program of a slot may read `count` bytes from `address` on.
     #[inline(always)]
     pub fn can_read(&self, at: usize, address: u64, count: u64) -> bool
         requires { has_space self.now at ≡ true }
@@ -384,7 +384,7 @@ impl<T: Translate> Spaces<T> {
         space.can_read(&self.ram, address, count)
     }
 
-    /// Whether the program of a place may write so many bytes.
+    /// Whether the program of a slot may write `count` bytes from `address` on.
     #[inline(always)]
     pub fn can_write(&self, at: usize, address: u64, count: u64) -> bool
         requires { has_space self.now at ≡ true }
@@ -394,7 +394,7 @@ impl<T: Translate> Spaces<T> {
         space.can_write(&self.ram, address, count)
     }
 
-    /// The bytes from an address of a place to the end of its page; none where its program may not read them.
+    /// The bytes from an address of a slot to the end of its page; none where its program may not read them.
     pub fn readable(&self, at: usize, address: u64) -> &[u8]
         requires { has_space self.now at ≡ true }
         ensures { result.now ≡ piece_at Load (view_at self.now at).memory address }
@@ -403,7 +403,7 @@ impl<T: Translate> Spaces<T> {
         space.readable(&self.ram, address)
     }
 
-    /// The bytes and the marks of a page of a place; `None` past the last one.
+    /// The bytes and the marks of a page of a slot; `None` past the last one.
     pub fn page(&self, at: usize, n: u64) -> Option<(&[u8; FRAME_SIZE], Perm)>
         requires { has_space self.now at ≡ true }
         ensures { option_map page_from result ≡ option_map told_page (slice_get (view_at self.now at).memory n) }
@@ -413,7 +413,7 @@ impl<T: Translate> Spaces<T> {
         Some((self.ram.frame(frame), marks.perm))
     }
 
-    /// The memory, and the frame of the root of a place's page table.
+    /// The memory, and the frame of the root of a slot's page table.
     pub fn tables(&self, at: usize) -> (&Ram, FrameNo)
         requires { has_space self.now at ≡ true }
         ensures { ShowsMemory result.0.now result.1.0 (view_at self.now at).memory }
@@ -422,7 +422,7 @@ impl<T: Translate> Spaces<T> {
         (&self.ram, root_of(space, &self.ram))
     }
 
-    /// Makes a space without pages in a free place. `false`: fewer than 4 frames are free; then nothing changed.
+    /// Makes a space without pages in a free slot. `false`: fewer than 4 frames are free; then nothing changed.
     pub fn create(&mut self, at: usize) -> bool
         requires inside { at < 64 }
         requires free { has_space self.old at ≡ false }
@@ -438,11 +438,11 @@ impl<T: Translate> Spaces<T> {
         }
     }
 
-    /// Makes a space in a free place with the pages of another place's. `false`: the frames don't suffice; then nothing
+    /// Makes a space in a free slot with the pages of another slot's. `false`: the frames don't suffice; then nothing
     /// changed.
     ///
-    /// The two share their frames, each page counted in full, and their pages are marked as those of a fork. The other
-    /// place's pages are closed then, so there is a fence where it is the active one.
+    /// The two share their frames, each page counted in full, and their pages are marked as those of a fork. The pages
+    /// of the source are closed then, so there is a fence where it is the active one.
     pub fn copy(&mut self, from: usize, to: usize) -> bool
         requires from { has_space self.old from ≡ true }
         requires inside { to < 64 }
@@ -461,7 +461,7 @@ impl<T: Translate> Spaces<T> {
         }
     }
 
-    /// Frees a place, and all frames of its space. The active place is not freed.
+    /// Frees a slot, and all frames of its space. The active slot is not freed.
     pub fn destroy(&mut self, at: usize)
         requires space { has_space self.old at ≡ true }
         requires idle { self.old.active ≢ Some at }
@@ -473,7 +473,7 @@ impl<T: Translate> Spaces<T> {
         }
     }
 
-    /// Adds so many bytes to a place's space: pages that come are 0 and have these marks. `false`: the frames don't
+    /// Adds `bytes` bytes to a slot's space: new pages are 0 and have these marks. `false`: the frames don't
     /// suffice; then nothing changed.
     ///
     /// There is no fence: the pages that the space had keep their frames, and what is held says where pages are and
@@ -492,7 +492,7 @@ impl<T: Translate> Spaces<T> {
         }
     }
 
-    /// Takes so many bytes away from the end of a place's space, and the pages that no byte needs then.
+    /// Takes the last `bytes` bytes from a slot's space, and the pages that no byte needs then.
     pub fn shrink(&mut self, at: usize, bytes: u64)
         requires space { has_space self.old at ≡ true }
         requires less { bytes ≤ (view_at self.old at).size }
@@ -505,7 +505,7 @@ impl<T: Translate> Spaces<T> {
         fence_active(&mut self.translator, self.active, at);
     }
 
-    /// Puts bytes into the pages of a place from an address on, whatever their marks, as a loader does.
+    /// Writes bytes into the pages of a slot from an address on, whatever their marks, as a loader does.
     #[inline]
     pub fn fill(&mut self, at: usize, address: u64, bytes: &[u8])
         requires space { has_space self.old at ≡ true }
@@ -530,7 +530,7 @@ impl<T: Translate> Spaces<T> {
         space.store(&mut self.ram, address, bytes)
     }
 
-    // The same for any bytes: pages may get other frames. It is out of line, as what is seldom done.
+    // The same for any bytes: pages may get other frames. It is out of line, as it is seldom done.
     #[inline(never)]
     fn fill_pages(&mut self, at: usize, address: u64, bytes: &[u8])
         requires space { has_space self.old at ≡ true }
@@ -542,7 +542,7 @@ impl<T: Translate> Spaces<T> {
         fence_active(&mut self.translator, self.active, at);
     }
 
-    /// Copies bytes to an address of a place. `false`: its program may not write them all; then nothing changed.
+    /// Copies bytes to an address of a slot. `false`: its program may not write them all; then nothing changed.
     pub fn write(&mut self, at: usize, address: u64, bytes: &[u8]) -> bool
         requires { has_space self.old at ≡ true }
         ensures can { result ≡ can_write (view_at self.old at).memory address (length bytes.now) }
@@ -558,7 +558,7 @@ impl<T: Translate> Spaces<T> {
         true
     }
 
-    /// Copies bytes from an address of a place. `false`: its program may not read them all; then none is copied.
+    /// Copies bytes from an address of a slot. `false`: its program may not read them all; then none is copied.
     pub fn read(&self, at: usize, address: u64, buffer: &mut [u8]) -> bool
         requires { has_space self.now at ≡ true }
         ensures can { result ≡ is_some (read_bytes (view_at self.now at).memory address (length buffer.old)) }
@@ -570,7 +570,7 @@ impl<T: Translate> Spaces<T> {
         space.copy_in(&self.ram, address, buffer).is_ok()
     }
 
-    /// Copies the string at an address of a place into a buffer, and tells its length: the bytes before the first 0,
+    /// Copies the string at an address of a slot into a buffer, and returns its length: the bytes before the first 0,
     /// none of which is 0, without it. `None` where its program may not read them and the 0, or the buffer is too
     /// short.
     pub fn copy_string(&self, at: usize, address: u64, buffer: &mut [u8]) -> Option<usize>
@@ -584,8 +584,8 @@ impl<T: Translate> Spaces<T> {
         space.copy_string(&self.ram, address, buffer)
     }
 
-    /// Copies the path at an address of a place into a buffer, and tells its length: it is a string of 127 bytes at the
-    /// most.
+    /// Copies the path at an address of a slot into a buffer, and returns its length: it is a string of at most 127
+    /// bytes.
     pub fn copy_path(&self, at: usize, address: u64, buffer: &mut [u8; 127]) -> Option<usize>
         requires { has_space self.now at ≡ true }
         ensures path { string_in buffer.new result ≡ path_at (view_at self.now at).memory address }
@@ -595,7 +595,7 @@ impl<T: Translate> Spaces<T> {
         self.copy_string(at, address, buffer)
     }
 
-    /// Makes a place the active one: the hart takes these registers, this pc and the tables of the place's space.
+    /// Makes a slot the active one: the hart takes these registers, this pc and the tables of the slot's space.
     pub fn activate(&mut self, at: usize, registers: &[u64; 32], pc: u64)
         requires space { has_space self.old at ≡ true }
         requires zero { slice_index registers.now 0 ≡ 0 }
@@ -612,7 +612,7 @@ impl<T: Translate> Spaces<T> {
         self.active = Some(at);
     }
 
-    /// No place is active: the hart runs nothing, and keeps its registers.
+    /// No slot is active: the hart runs nothing, and keeps its registers.
     pub fn deactivate(&mut self)
         ensures { self.new ≡ record self.old { active = None } }
     {
@@ -655,7 +655,7 @@ impl<T: Translate> Spaces<T> {
         self.hart.pc = value;
     }
 
-    /// Does the instruction at the pc in the memory of the active place, or says why it isn't done.
+    /// Does the instruction at the pc in the memory of the active slot, or says why it isn't done.
     ///
     /// A store that faults at a page which the program may write by right is done in the same step: the page is opened,
     /// and gets a frame of its own where others hold its frame too.
@@ -683,7 +683,7 @@ impl<T: Translate> Spaces<T> {
         step_again(&mut self.hart, &mut self.ram, translator)
     }
 
-    /// The lowest free place for pipes.
+    /// The lowest free slot for pipes.
     pub fn free_pipe(&self) -> Option<usize>
         ensures place { result ≡ free_slot self.now.pipes }
         ensures within { IfSome result (λ q. q < 100) }
@@ -692,7 +692,7 @@ impl<T: Translate> Spaces<T> {
         lowest_free(self.pipes.as_slice())
     }
 
-    /// Makes an empty pipe in a free place. `false`: no frame is free; then nothing changed.
+    /// Makes an empty pipe in a free slot. `false`: no frame is free; then nothing changed.
     pub fn create_pipe(&mut self, q: usize) -> bool
         requires inside { q < 100 }
         requires free { has_pipe self.old q ≡ false }
@@ -708,7 +708,7 @@ impl<T: Translate> Spaces<T> {
         }
     }
 
-    /// Frees the place of a pipe, and its frame.
+    /// Frees the slot of a pipe, and its frame.
     pub fn destroy_pipe(&mut self, q: usize)
         requires { has_pipe self.old q ≡ true }
         ensures { self.new ≡ with_pipe self.old q None }
@@ -719,7 +719,7 @@ impl<T: Translate> Spaces<T> {
         }
     }
 
-    /// The bytes of a pipe, the oldest first: those of the second slice stand behind those of the first. `None` where
+    /// The bytes of a pipe, the oldest first: those of the second slice follow those of the first. `None` where
     /// there is no such pipe.
     pub fn pipe(&self, q: usize) -> Option<(&[u8], &[u8])>
         ensures { option_map (λ r. r.0.now ++ r.1.now) result ≡ slot self.now.pipes q }
@@ -749,7 +749,7 @@ impl<T: Translate> Spaces<T> {
         pipe.can_write()
     }
 
-    // Puts what fits of these bytes behind those of a pipe, and tells how many.
+    // Appends what fits of these bytes to those of a pipe, and returns how many.
     fn put_bytes(&mut self, q: usize, bytes: &[u8]) -> usize
         requires { has_pipe self.old q ≡ true }
         ensures bytes { self.new ≡ put_behind self.old q bytes.now }
@@ -761,7 +761,7 @@ impl<T: Translate> Spaces<T> {
         }
     }
 
-    // Takes bytes of a pipe into a buffer, as many as there are and fit, and tells how many.
+    // Takes bytes of a pipe into a buffer, as many as there are and fit, and returns how many.
     fn take_bytes(&mut self, q: usize, buffer: &mut [u8]) -> usize
         requires { has_pipe self.old q ≡ true }
         ensures rest { self.new ≡ with_pipe self.old q (Some (drop (length buffer.old) (bytes_in self.old q))) }
@@ -774,7 +774,7 @@ impl<T: Translate> Spaces<T> {
         }
     }
 
-    // Puts what fits of the bytes of a place into a pipe, by way of a buffer that they all fit in.
+    // Appends what fits of the bytes of a slot to a pipe, by way of a buffer that holds them all, and returns how many.
     fn write_through(&mut self, q: usize, at: usize, address: u64, buffer: &mut [u8]) -> usize
         requires pipe { has_pipe self.old q ≡ true }
         requires space { has_space self.old at ≡ true }
@@ -787,7 +787,7 @@ impl<T: Translate> Spaces<T> {
         self.put_bytes(q, buffer)
     }
 
-    // Takes bytes of a pipe to a place, by way of a buffer, as many as fit in that.
+    // Moves bytes of a pipe to a slot, by way of a buffer, as many as fit in that, and returns how many.
     fn read_through(&mut self, q: usize, at: usize, address: u64, buffer: &mut [u8]) -> usize
         requires pipe { has_pipe self.old q ≡ true }
         requires space { has_space self.old at ≡ true }
@@ -801,7 +801,7 @@ impl<T: Translate> Spaces<T> {
         taken
     }
 
-    /// Puts what fits of these bytes of a place's program behind those of a pipe, and tells how many.
+    /// Appends what fits of these bytes of a slot's program to those of a pipe, and returns how many.
     pub fn write_pipe(&mut self, q: usize, at: usize, address: u64, count: usize) -> usize
         requires pipe { has_pipe self.old q ≡ true }
         requires space { has_space self.old at ≡ true }
@@ -818,7 +818,7 @@ impl<T: Translate> Spaces<T> {
         self.write_through(q, at, address, &mut buffer[..size])
     }
 
-    /// Takes bytes of a pipe to an address of a place, as many as there are and so many at the most, and tells how
+    /// Moves at most `count` bytes of a pipe to an address of a slot, as many as there are, and returns how
     /// many.
     pub fn read_pipe(&mut self, q: usize, at: usize, address: u64, count: usize) -> usize
         requires pipe { has_pipe self.old q ≡ true }

@@ -15,7 +15,7 @@ run : (g : given.Over) (c : After-space_at-space g)
     → IsRun g.T.Translate.held c.self.inside c.in-Some.at c.space_at-space.result.now
 run g c = run-at c.space_at-space.result.now c.self.invariant c.in-Some.is c.space_at-space.ensures
 
--- the fields behind the fence
+-- the fields after the fence
 reopen : (g : given.Over) (c : After-fence g)
     → Reopened g.T.Translate.held c.self.inside
     (record c.self.inside {

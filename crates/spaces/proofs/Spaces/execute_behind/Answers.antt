@@ -5,7 +5,7 @@ use Rattle.spaces.proofs.Spaces.execute_behind.Given as given
 use Rattle.spaces.proofs.Spaces.execute_behind.Goals as goal
 use Rattle.spaces.proofs.Spaces.execute_behind.Goals.{After-is_at, After-run-done}
 
--- behind the first one
+-- after the first instruction
 one : (g : given.Over) (c : After-is_at g) → (c.execute_one.new.self.active ≡ c.args.self.now.active)
     × AdvancesTo (g.S.Stops.addresses c.args.stops.now) (c.args.count - c.loop-left.left + 1) c.args.self.now.active
     c.args.self.now c.execute_one.new.self
@@ -15,7 +15,7 @@ one g c =
     c.args.self.now.active c.execute_one.result c.requires before.active before.advances before.past
     c.in_default.is c.execute_one.ensures.done
 
--- behind a run
+-- after a run
 ran : (g : given.Over) (c : After-run-done g) → (c.run-done.new.self.active ≡ c.args.self.now.active)
     × AdvancesTo (g.S.Stops.addresses c.args.stops.now) (c.args.count - (c.loop-left.left - 1 - c.run-done.result.0))
     c.args.self.now.active c.args.self.now c.run-done.new.self
@@ -50,7 +50,7 @@ loop-left-preserved g c =
       advances = now.1;
     }
 
--- the first one traps
+-- the first instruction traps
 pub returns-in-Some-clause-done : goal.returns-in-Some-clause-done
 returns-in-Some-clause-done g c =
     (stops-at _ (c.args.count - c.loop-left.left) c.args.self.now.active c.args.self.now c.loop-left.self
@@ -65,7 +65,7 @@ returns-in-Some-clause-trap g c = (
       c.in-Some.ensures.trap).1,
 )
 
--- the first one leads to a stop
+-- the first instruction leads to a stop
 pub returns-then-is_at-clause-done : goal.returns-then-is_at-clause-done
 returns-then-is_at-clause-done g c =
     let sum : c.args.count - c.loop-left.left + 1 ≡ c.args.count - (c.loop-left.left - 1) =
@@ -92,7 +92,7 @@ returns-in_default-stopped-clause-ends g c =
     ends _ c.args.count c.loop-left.left c.run-done.result.0 c.run-done.new.self.pc c.loop-left.invariant.bounded
     c.loop-left-test.true c.run-done.ensures.within (rw c.in_default-stopped.is at c.run-done.ensures.ends)
 
--- the next one traps
+-- the next instruction traps
 pub returns-then-not-is_store_fault-clause-done : goal.returns-then-not-is_store_fault-clause-done
 returns-then-not-is_store_fault-clause-done g c =
     (ran g (goal.at.returns-then-not-is_store_fault-clause-done g c).After-run-done).1

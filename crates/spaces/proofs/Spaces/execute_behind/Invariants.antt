@@ -3,7 +3,7 @@ use Rattle.hart.specs.Stops.{IsPast}
 use Rattle.spaces.proofs.SpacesLemmas.{AdvancesTo}
 use Rattle.spaces.proofs.Spaces.execute_behind.Given as goal
 
--- so many instructions are done so far
+-- count - left instructions are done so far
 abbrev pub invariant-loop-left : goal.invariant-loop-left
 invariant-loop-left g l = record {
   bounded : l.left ≤ l.count;

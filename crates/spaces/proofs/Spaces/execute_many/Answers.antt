@@ -2,7 +2,7 @@ use Rattle.spaces.proofs.Common.{◌≡◌, ◌+◌, Err, refl, view_at, cycle}
 use Rattle.spaces.proofs.SpacesLemmas.{advances-on, all-behind, behind-past, trap-behind}
 use Rattle.spaces.proofs.Spaces.execute_many.Goals as goal
 
--- a store faulted: it is done, and those behind it
+-- a store faulted: it is done, and the instructions after it
 pub returns-then-is_store_fault-clause-done : goal.returns-then-is_store_fault-clause-done
 returns-then-is_store_fault-clause-done g c =
     advances-on _ c.run-done.result.0 c.execute_behind-more.result.0
@@ -24,7 +24,7 @@ returns-then-is_store_fault-clause-trap g c =
     (view_at c.execute_behind-more.new.self at).memory ≡ Err t) c.run-done.ensures.active
     c.execute_behind-more.ensures.trap
 
--- the next one traps
+-- the next instruction traps
 pub returns-clause-trap : goal.returns-clause-trap
 returns-clause-trap g c = (
   rw c.in-Some.is at c.run-done.ensures.some,
