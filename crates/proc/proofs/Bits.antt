@@ -1,4 +1,4 @@
--- The bits of a number, and the places of a mask.
+-- The bits of a number, and the slots of a mask.
 use Rattle.proc.proofs.Common.{Bool, List, ap, arith, false, inl, inr, length, refl, sym, suc, true, w64, zero, ℕ, ◌%◌}
 use Rattle.proc.proofs.Common.{◌*◌, ◌+◌, ◌-◌, ◌/◌, ◌<◌, ◌==◌, ◌∙◌, ◌≡◌, ◌≢◌, ◌≤◌, ◌^◌, bit_and, bit_or, slice_set}
 use Rattle.proc.proofs.Common.{cases_eq, cases_lt, ext_get_or, get_or-set_other, get_or-set_same, set_past, IsNext}
@@ -23,7 +23,7 @@ bit-in zero n i h = absurd (omega arith)
 bit-in (suc w) n zero h = ap (λ b. b == 1) (sym (bit_at_lowest n))
 bit-in (suc w) n (suc i) h = bit-in w _ i (omega arith) ∙ ap (λ b. b == 1) (sym (bit_at-suc n i))
 
--- m has the bits of n but for one
+-- m has the bits of n, except for one
 module _ (n m at : ℕ) (b : Bool) (low : at < 64) (here : (bit_at m at == 1) ≡ b)
     (others : (i : ℕ) → i < 64 → i ≢ at → bit_at m i ≡ bit_at n i) where
   one-bit : (i : ℕ) → i < 64 → is_in (bits_of 64 m) i ≡ is_in (slice_set (bits_of 64 n) at b) i
@@ -43,7 +43,7 @@ pub bit-set : (n at : ℕ) → at < 64 → bits_of 64 (bit_or n (1 * 2 ^ at % 2 
 bit-set n at low = one-changed n (bit_or n (1 * 2 ^ at % 2 ^ 64))
     at true low (ap (λ b. b == 1) (bit_at_set_same w64 n at low)) (λ i h other. bit_at_set_other w64 n at low i other)
 
--- there is no such place
+-- there is no such slot
 pub bit-past : (n at : ℕ) → 64 ≤ at → bits_of 64 n ≡ slice_set (bits_of 64 n) at true
 bit-past n at past = sym (set_past (bits_of 64 n) at true (omega (arith, length-bits_of 64 n)))
 
@@ -57,7 +57,7 @@ bit-cleared n at low = one-changed n (bit_and n (bit_not w64 (1 * 2 ^ at % 2 ^ 6
 pub bit-tested : (n at : ℕ) → at < 64 → (bit_and (n / 2 ^ at) 1 == 1) ≡ is_in (bits_of 64 n) at
 bit-tested n at low = ap (λ b. b == 1) (shr_and_one n at) ∙ sym (bit-in 64 n at low)
 
--- ---- a number that is turned round
+-- ---- a number that is rotated
 
 -- the low bits are those of what is cut off
 cut-bit : (n s : ℕ) {j : ℕ} → j < 64 → bit_at (n * 2 ^ s % 2 ^ 64) j ≡ bit_at (n * 2 ^ s + 0) j
@@ -103,7 +103,7 @@ rotated-fits n r fits = or_lt 64 (n / 2 ^ (r % 64)) (n * 2 ^ ((64 - r % 64) % 64
 
 -- ---- the lowest bit
 
--- no bit below the lowest 1 is set, and that is, where there is one
+-- no bit below bit t is 1, and bit t is 1, if there is one
 record IsLowest (n t : ℕ) : Type 0 where
   pub below : (i : ℕ) → i < t → i < 64 → bit_at n i ≡ 0
   pub there : t < 64 → bit_at n t ≡ 1
@@ -122,9 +122,9 @@ lowest {n} fits = elim (cases_lt 0 n) [
       }
 ]
 
--- ---- the next place that is in
+-- ---- the next slot of a mask
 
--- places: what the bits of n show; ahead: n, turned so that its bits begin with that turn
+-- the mask is the bits of n; ahead: n, rotated so that its bits begin with that turn
 module _ {n last turn ahead : ℕ} {places : List Bool} (shows : bits_of 64 n ≡ places)
     (turns : ahead ≡ rotate_right w64 n ((last + turn) % 64)) (fits : n < 2 ^ 64) (in_last : last < 64)
     (in_turn : (1 ≤ turn) × (turn ≤ 65)) where

@@ -1,4 +1,4 @@
--- The names that the lemmas of this crate import from elsewhere, passed on from one place. Declares nothing.
+-- The names from elsewhere that the lemmas of this crate import, in one file. Declares nothing.
 pub use Rattle.std.proofs.Common.{◌%◌, ◌*◌, ◌+◌, ◌-◌, ◌/◌, ◌<◌, ◌==◌, [], ◌^◌, ◌++◌, ap, arith, drop, Bool, false}
 pub use Rattle.std.proofs.Common.{get_or, inl, inr, is_some, length, List, map, max, None, Ok, Option, option_map, refl}
 pub use Rattle.std.proofs.Common.{slice_set, Some, subst, suc, sym, take, true, w64, zero, ℕ, ◌∙◌, ◌∷◌, ◌≡◌, ◌≢◌, ◌≤◌}

@@ -22,20 +22,20 @@ use Rattle.std.proofs.lemmas.Iterator.Adapters.{position_from-zero}
 use Rattle.std.proofs.lemmas.List.Folds.{list_any_more}
 use Rattle.std.specs.List.{position_from}
 
--- the places of a table
+-- the slots of a table
 abbrev pub Processes : Type 0
 Processes = List (Option Process)
 
 -- ---- a pick that goes on from a turn of its round
 
--- in the set of all places each is
+-- the mask of all slots has each slot
 pub all-in : (n i : ℕ) → is_in (all_in n) i ≡ true
 unfolding all_in
 all-in zero i = refl
 all-in (suc n) zero = refl
 all-in (suc n) (suc i) = all-in n i
 
--- what holds of each place of a list, where one has something else
+-- what holds of each slot of a list, where one has something else
 pub set-all : {X : Type 0} (P : ℕ → X → Type 0) (xs : List X) (i : ℕ) {x : X} (d : X) → P i x
     → ((j : ℕ) → P j (get_or xs j d)) → (j : ℕ) → P j (get_or (slice_set xs i x) j d)
 set-all P [] i d here each j = each j
@@ -58,9 +58,9 @@ module _ {P : ℕ → Type 0} {low mid : ℕ} (first' : (k : ℕ) → low ≤ k 
   pub up_to-more : P mid → (k : ℕ) → low ≤ k → k < mid + 1 → P k
   up_to-more here = up_to (λ k behind less. let same : mid ≡ k = omega arith in subst P same here)
 
--- ---- a look that changes nothing
+-- ---- a search that changes nothing
 
--- in none of the turns so far it is yes
+-- no turn so far said yes
 pub record HasLooked (says : ℕ → Bool → Type 0) (last turn : ℕ) : Type 0 where
   pub in_round : (1 ≤ turn) × (turn ≤ 65)
   pub before : (k : ℕ) → 1 ≤ k → k < turn → says (place_in_round last k) false
@@ -92,9 +92,9 @@ module _ {says : ℕ → Bool → Type 0} {last turn : ℕ} (looked : HasLooked 
   pub looked-all : NoneIsIn awake last turn 65 → NoneSays says last
   looked-all out = λ k low high. looked-to out k low (omega arith)
 
--- ---- a look after which who isn't ready sleeps
+-- ---- a search that puts to sleep whoever isn't ready
 
--- who isn't awake isn't ready, and no place of the turns so far is awake
+-- whoever isn't awake isn't ready, and no slot of the turns so far is awake
 pub record IsLooking (says : ℕ → Bool → Type 0) (last : ℕ) (awake : List Bool) (turn : ℕ) : Type 0 where
   pub passed : HasLooked (λ i. λ b. is_in awake i ≡ b) last turn
   pub asleep : (i : ℕ) → is_in awake i ≡ false → says i false
@@ -113,7 +113,7 @@ module _ {says : ℕ → Bool → Type 0} {last : ℕ} {awake : List Bool} {turn
       }) awake
       looks.asleep is
 
-  -- one that isn't ready is no more awake
+  -- a slot that isn't ready is put to sleep
   module _ (all : length awake ≡ 64) (no' : says (place_in_round last next) false) where
     abbrev at : ℕ
     at = place_in_round last next
@@ -129,7 +129,7 @@ module _ {says : ℕ → Bool → Type 0} {last : ℕ} {awake : List Bool} {turn
       asleep = set-all (λ i b. b ≡ false → says i false) awake at true (λ _. no') looks.asleep;
     }
 
--- ---- the first place of a mask from one on: a round that begins after the last place
+-- ---- the first slot of a mask from one on: a round that begins after the last slot
 
 pub first-from : {places : List Bool} {from turn : ℕ} → IsNext places 63 (from + 1) turn
     → IsFirstFrom places from (turn - 1)
@@ -154,7 +154,7 @@ set-in [] i = refl
 set-in (b ∷ bs) zero = refl
 set-in (b ∷ bs) (suc i) = set-in bs i
 
--- what isn't in where a place was put in is another, and was not
+-- a slot that isn't in the mask after another was added was not in it before
 pub set-out : (bs : List Bool) (i j : ℕ) → is_in (slice_set bs i true) j ≡ false → is_in bs j ≡ false
 set-out [] i j out = out
 set-out (b ∷ bs) zero zero out = absurd (cc)
@@ -203,7 +203,7 @@ module _ {kind : WaitKind} {places : Processes} {from next : ℕ} {may : List Bo
       before = up_to-more {P = λ j. holds (waits_so kind) (slot places j) ≡ false} (passed-to is.before) no';
     }
 
--- ---- places that change
+-- ---- slots that change
 
 module _ {kind : WaitKind} {places : Processes} {may : List Bool} (within : IsWithin kind places may) where
   one-put : (i : ℕ) (o : Option Process) → IsWithin kind (slice_set places i o) (slice_set may i true)
@@ -219,7 +219,7 @@ module _ {kind : WaitKind} {places : Processes} {may : List Bool} (within : IsWi
         (λ _. refl) within.out;
   }
 
--- who goes to process 1 waits as before
+-- a child that goes to process 1 waits as it did
 orphan-waits : (kind : WaitKind) (pid : ℕ) (p : Process) → waits_so kind (orphaned pid p) ≡ waits_so kind p
 orphan-waits kind pid p = go (is_child_of pid p) where
   go : (b : Bool) → waits_so kind (if b then record p { parent = 1 } else p) ≡ waits_so kind p
@@ -241,7 +241,7 @@ pub within-all : {places : Processes}
 within-all {places} = record { sleeps = one-all; transfers = one-all; children = one-all }
 
 module _ {places : Processes} {may : WaitPlaces} (are : AreWithin places may) where
-  -- a place in which a process may wait has another
+  -- a slot in which a process may wait gets another process
   pub within-put : (i : ℕ) (o : Option Process) → AreWithin (slice_set places i o) (with_place may i)
   within-put i o = record {
     sleeps = one-put are.sleeps i o;
@@ -274,7 +274,7 @@ pub refilled-set : {xs ys : Processes} (i : ℕ) (o : Option Process) → ys ≡
 refilled-set {xs} {ys} i o same = refilled xs (length-set xs i o) (ap (λ l. slice_set l i o) same)
 
 module _ {t : Inside} (is : IsSound t) where
-  -- as many places, and each of those who wait stands where one may
+  -- a table with as many slots, where whoever waits is in a slot of the masks
   sound-as : {items new : Processes} {next_pid : ℕ} {waiting may : WaitPlaces} → items ≡ new
       → length new ≡ length t.places.items → next_pid ≤ 2147483648 → waiting ≡ may → AreWithin new may
       → IsSound (record {
@@ -309,7 +309,7 @@ module _ {t : Inside} (is : IsSound t) where
       sound-as mapped (length-map t.places.items (option_map (orphaned pid))) is.pids refl
       (within-orphaned is.waiting _)
 
--- who gets a seat gets a pid that is one
+-- the pid of a new seat is a valid one
 pub seat-pid : (t : Places) {seat : Seat} → Ok seat ≡ seat_of t → t.next_pid ≤ 2147483647
 seat-pid t {seat} is = go (free_slot t.places) is where
   at : (b : Bool) (i : ℕ) → (b ≡ true → t.next_pid ≤ 2147483647)
@@ -321,9 +321,9 @@ seat-pid t {seat} is = go (free_slot t.places) is where
   go None same = absurd (cc)
   go (Some i) same = at (nat_le t.next_pid last_pid) i (leb-true t.next_pid last_pid) same
 
--- ---- the least pid above another, found by a walk over the places
+-- ---- the least pid above another, found by a walk over the slots
 
--- ---- of pids
+-- ---- pids
 
 -- the same pids are there
 pub next-same : (there others : ℕ → Bool) (after : ℕ) (result : Option ℕ) → ((q : ℕ) → there q ≡ others q)
@@ -337,7 +337,7 @@ next-same there others after (Some pid) same is =
           ∙ is.between q high low;
     }
 
--- with one pid more
+-- with one more pid
 module _ (there more : ℕ → Bool) (after pid : ℕ) (one : (q : ℕ) → more q ≡ (there q || (pid == q))) where
   still-none : {q : ℕ} → there q ≡ false → (pid ≡ q → ⊥) → more q ≡ false
   still-none {q} none other = one q ∙ rw (none, ne_eqb pid q other) refl
@@ -381,7 +381,7 @@ module _ (there more : ℕ → Bool) (after pid : ℕ) (one : (q : ℕ) → more
     ]
   ]
 
--- ---- of places
+-- ---- slots
 
 found-from : {X : Type 0} (test : X → Bool) (n : ℕ) (xs : List X) → is_some (position_from test n xs) ≡ list_any test xs
 found-from test n [] = refl
@@ -389,11 +389,11 @@ found-from test n (x ∷ xs) =
     elim (test x) as (λ b. is_some (cond b (Some n) (position_from test (n + 1) xs)) ≡ (b || list_any test xs))
     [ true ↦ refl | false ↦ found-from test (n + 1) xs ]
 
--- a search finds one where one passes
+-- a search finds a slot exactly where one passes
 pub found-any : {X : Type 0} (test : X → Bool) (xs : List X) → is_some (position test xs) ≡ list_any test xs
 found-any test xs = ap is_some (position_from-zero _ xs) ∙ found-from _ 0 xs
 
--- whether a pid is that of a process in the first places
+-- whether a pid is that of a process in the first n slots
 abbrev pub is_among : Processes → ℕ → ℕ → Bool
 is_among places n pid = list_any (holds (has_pid pid)) (take n places)
 
@@ -414,7 +414,7 @@ module _ (places : Processes) (after i : ℕ) (low : i < length places) (found :
       → IsNextOf (is_among places (i + 1)) after (lesser found after p.pid)
   among-more {p} here = next-more (is_among places i) (is_among places (i + 1)) after p.pid (one-more here) found is
 
--- past the last place
+-- past the last slot
 pub among-all : (places : Processes) (after : ℕ) {i : ℕ} (found : Option ℕ) → length places ≤ i
     → IsNextOf (is_among places i) after found
     → IsNextOf (λ pid. is_some (place_where places (has_pid pid))) after found

@@ -1,4 +1,4 @@
--- What a table ends as, where a mutable reference to the process in a place is returned.
+-- The table after a mutable reference to the process in a slot was returned.
 use Rattle.std.specs.Prelude.{Option, ℕ}
 use Rattle.std.specs.Borrow.{Fml, LendsIf, MutBor}
 use Rattle.proc.specs.Places.{Places}
@@ -7,6 +7,6 @@ use Rattle.proc.specs.contracts.table.Table.{the_row as table_row}
 use Rattle.proc.specs.declared.process.Process.{Process}
 use Rattle.unixmodel.specs.Files.{put}
 
--- the place has the last value written through r, and at `None` the table stays as it is
+-- the slot has the last value written through r, and at `None` the table stays as it is
 abbrev pub LendsProcess : MutBor Places → ℕ → Option (MutBor Process) → Fml
 LendsProcess t i r = LendsIf table_row process_row t r (λ p. record t.now { places = put t.now.places i p }) t.now

@@ -15,7 +15,7 @@ pub record IsLeastAbove (there : ℕ → Bool) (after pid : ℕ) : Type 0 where
 abbrev pub IsNextOf : (ℕ → Bool) → ℕ → Option ℕ → Type 0
 IsNextOf there after result = MatchOption result (NoneAbove there after) (IsLeastAbove there after)
 
--- the lesser of the pid that was found and another, which counts where it is above a third
+-- the lesser of the pid that was found and another, which counts where it is above `after`
 abbrev pub lesser : Option ℕ → ℕ → ℕ → Option ℕ
 lesser None after pid = if nat_lt after pid then Some pid else None
 lesser (Some least) after pid =

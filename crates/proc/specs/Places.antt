@@ -1,4 +1,4 @@
--- The places, in the words of the abstract Unix's state: a process is as there, but for its memory.
+-- The slots, in terms of the abstract Unix's state: a process is the same, except for its memory.
 use Rattle.std.specs.Prelude.{Bool, Err, List, None, Ok, Option, Result, Some, if◌then◌else◌, map, nat_le, option_map}
 use Rattle.std.specs.Prelude.{position, slice_set, true, ℕ, ℤ, ◌&&◌, ◌+◌, ◌==◌}
 use Rattle.proc.specs.declared.process.Process.{Process}
@@ -15,7 +15,7 @@ use Rattle.unixmodel.specs.Process.{is_running_mode, is_zombie_mode, last_pid}
 use Rattle.unixmodel.specs.ProcessCalls.{status_of}
 use Rattle.unixmodel.specs.State.{holds}
 
--- 64 places, the one that was picked last, the pid that the next process gets, and which places a turn looks at
+-- 64 slots, the one that was picked last, the pid that the next process gets, and which slots a turn looks at
 pub record Places : Type 0 where
   pub places : List (Option Process)
   pub last : ℕ
@@ -24,11 +24,11 @@ pub record Places : Type 0 where
 
 -- ---- who is awake
 
--- whether a turn looks at place i
+-- whether a turn looks at slot i
 abbrev pub is_awake : Places → ℕ → Bool
 is_awake t i = is_in t.awake i
 
--- a turn looks at place i again
+-- a turn looks at slot i again
 abbrev pub woken : Places → ℕ → Places
 woken t i = record t { awake = slice_set t.awake i true }
 
@@ -71,28 +71,28 @@ zombie_of p status = record p { descriptors = no_descriptors; directory = 0; mod
 abbrev pub orphaned : ℕ → Process → Process
 orphaned pid p = if is_child_of pid p then record p { parent = 1 } else p
 
--- ---- places
+-- ---- slots
 
--- the first place whose process passes a test
+-- the first slot whose process passes a test
 abbrev pub place_where : List (Option Process) → (Process → Bool) → Option ℕ
 place_where places test = position (holds test) places
 
--- the process in place i is changed
+-- the process in slot i is changed
 abbrev pub changed : Places → ℕ → (Process → Process) → Places
 changed t i change = record t { places = slice_set t.places i (option_map change (slot t.places i)) }
 
--- the process in a place is changed, where there is a place
+-- the process in a slot is changed, where a slot is given
 abbrev pub changed_at : Places → (Process → Process) → Option ℕ → Places
 changed_at t change None = t
 changed_at t change (Some i) = changed t i change
 
--- the running process is changed; nothing is where none runs
+-- the running process is changed; nothing is, where none runs
 abbrev pub with_running : Places → (Process → Process) → Places
 with_running t change = changed_at t change (place_where t.places is_running)
 
 -- ---- a new process
 
--- the lowest free place and the next pid, or what is missing
+-- the lowest free slot and the next pid, or what is missing
 abbrev pub seat_at : ℕ → Option ℕ → Result Seat ProcFault
 seat_at pid None = Err Slots
 seat_at pid (Some i) = if nat_le pid last_pid then Ok (record { place = i; pid = pid }) else Err Pids
@@ -100,13 +100,13 @@ seat_at pid (Some i) = if nat_le pid last_pid then Ok (record { place = i; pid =
 abbrev pub seat_of : Places → Result Seat ProcFault
 seat_of t = seat_at t.next_pid (free_slot t.places)
 
--- a process takes a place and a pid
+-- a process takes a slot and a pid
 abbrev pub seated : Places → Process → Seat → Places
 seated t p seat = record t { places = put t.places seat.place (record p { pid = seat.pid }); next_pid = t.next_pid + 1 }
 
 -- ---- the end of a process
 
--- the process in place i has ended; its children go to process 1
+-- the process in slot i has ended; its children go to process 1
 abbrev pub ended : Places → ℕ → ℤ → Option Process → Places
 ended t i status None = t
 ended t i status (Some p) =
@@ -115,7 +115,7 @@ ended t i status (Some p) =
 abbrev pub exited : Places → ℕ → ℤ → Places
 exited t i status = ended t i status (slot t.places i)
 
--- ---- a zombie that is waited for
+-- ---- a zombie that is collected
 
 abbrev pub zombie_place : Places → ℕ → Option ℕ
 zombie_place t parent = place_where t.places (is_zombie_child_of parent)
@@ -127,7 +127,7 @@ abbrev pub reaped_at : Places → Option ℕ → Option Reaped
 reaped_at t None = None
 reaped_at t (Some i) = option_map (reaped_from i) (slot t.places i)
 
--- a place becomes free, where there is one
+-- a slot becomes free, where one is given
 abbrev pub without : Places → Option ℕ → Places
 without t None = t
 without t (Some i) = record t { places = clear t.places i }

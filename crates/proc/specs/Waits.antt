@@ -12,7 +12,7 @@ use Rattle.unixmodel.specs.declared.process.Mode.TheVariants.{Ready, Running, Wa
 use Rattle.unixmodel.specs.Files.{slot}
 use Rattle.unixmodel.specs.State.{holds, place_limit}
 
--- whether a call waits so
+-- whether a call waits for that kind of event
 abbrev pub call_waits : WaitKind → Call → Bool
 call_waits Time Sleep = true
 call_waits Time _ = false
@@ -28,25 +28,25 @@ mode_waits kind Ready = false
 mode_waits kind (Waiting w) = call_waits kind w.number
 mode_waits kind (Zombie status) = false
 
--- whether a process waits so
+-- whether a process waits for that kind of event
 abbrev pub waits_so : WaitKind → Process → Bool
 waits_so kind p = mode_waits kind p.mode
 
--- place i is the first from that place on whose process waits so
+-- slot i is the first from slot `from` on whose process waits for that
 pub record IsFirstWaiting (places : List (Option Process)) (kind : WaitKind) (from i : ℕ) : Type 0 where
   pub in_places : (from ≤ i) × (i < place_limit)
   pub there : holds (waits_so kind) (slot places i) ≡ true
   pub before : (j : ℕ) → from ≤ j → j < i → holds (waits_so kind) (slot places j) ≡ false
 
--- in no place from one on a process waits so
+-- no process in the slots from `from` on waits for that
 abbrev pub NoneWaits : List (Option Process) → WaitKind → ℕ → Type 0
 NoneWaits places kind from = (j : ℕ) → from ≤ j → j < place_limit → holds (waits_so kind) (slot places j) ≡ false
 
--- the first place from one on whose process waits so
+-- the first slot from slot `from` on whose process waits for that
 abbrev pub FindsWaiting : List (Option Process) → WaitKind → ℕ → Option ℕ → Type 0
 FindsWaiting places kind from result = MatchOption result (NoneWaits places kind from) (IsFirstWaiting places kind from)
 
--- who waits so stands in one of these places
+-- whoever waits for that is in one of these slots
 pub record IsWithin (kind : WaitKind) (places : List (Option Process)) (may : List Bool) : Type 0 where
   pub out : (j : ℕ) → is_in may j ≡ false → holds (waits_so kind) (slot places j) ≡ false
 
@@ -55,7 +55,7 @@ pub record AreWithin (places : List (Option Process)) (may : WaitPlaces) : Type 
   pub transfers : IsWithin Transfer places may.transfers
   pub children : IsWithin Child places may.children
 
--- in place i a process may wait, whatever for
+-- a process may wait in slot i, whatever for
 abbrev pub with_place : WaitPlaces → ℕ → WaitPlaces
 with_place may i = record {
   sleeps = slice_set may.sleeps i true;

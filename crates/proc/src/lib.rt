@@ -1,4 +1,4 @@
-//! The places of processes, and the turn.
+//! The slots of processes, and the turn.
 #![tactic(auto)]
 
 mod mask;

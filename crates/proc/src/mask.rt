@@ -1,10 +1,10 @@
-//! A set of the 64 places.
+//! A set of the 64 slots.
 ghost use Rattle.std.specs.Prelude.{◌≡◌, ◌+◌, ◌<◌, ◌≤◌, length, slice_set, true, false};
 ghost use Rattle.proc.specs.Mask.{Finds, FindsFrom, all_in, is_in};
 
 use std::marker::Model;
 
-/// Some of the 64 places: a bit of a number for each.
+/// Some of the 64 slots: a bit of a number for each.
 #[derive(Drop)]
 pub struct Mask {
     bits: u64,
@@ -20,21 +20,21 @@ impl Model for Mask {
 }
 
 impl Mask {
-    /// All places.
+    /// All slots.
     pub fn all() -> Mask
         ensures { result ≡ all_in 64 }
     {
         Mask { bits: u64::MAX }
     }
 
-    /// The same places.
+    /// The same slots.
     pub fn duplicate(&self) -> Mask
         ensures { result ≡ self.now }
     {
         Mask { bits: self.bits }
     }
 
-    /// Whether a place is in.
+    /// Whether a slot is in.
     pub fn has(&self, at: usize) -> bool
         requires { at < 64 }
         ensures { result ≡ is_in self.now at }
@@ -42,7 +42,7 @@ impl Mask {
         self.bits >> at & 1 == 1
     }
 
-    /// Puts a place in. Nothing changes past the last place.
+    /// Puts a slot in. Nothing changes past the last slot.
     pub fn set(&mut self, at: usize)
         ensures { self.new ≡ slice_set self.old at true }
     {
@@ -51,7 +51,7 @@ impl Mask {
         }
     }
 
-    /// Takes a place out.
+    /// Takes a slot out.
     pub fn clear(&mut self, at: usize)
         requires { at < 64 }
         ensures { self.new ≡ slice_set self.old at false }
@@ -59,7 +59,7 @@ impl Mask {
         self.bits &= !(1 << at);
     }
 
-    /// In the round that begins after a place and ends at it: the first turn, from one on, whose place is in.
+    /// The first turn from `turn` on whose slot is in, in the round that begins after slot `last` and ends at it.
     pub fn next(&self, last: usize, turn: usize) -> Option<usize>
         requires last { last < 64 }
         requires turn { (1 ≤ turn) × (turn ≤ 65) }
@@ -71,7 +71,7 @@ impl Mask {
         if next <= 64 { Some(next) } else { None }
     }
 
-    /// The first place from one on that is in.
+    /// The first slot from `from` on that is in.
     pub fn first_from(&self, from: usize) -> Option<usize>
         requires { from ≤ 64 }
         ensures finds { FindsFrom self.now from result }

@@ -1,8 +1,8 @@
-//! A process, but for its memory.
+//! A process, without its memory.
 
 use unixmodel::process::Mode;
 
-/// All that a process has but its memory.
+/// All that a process has, except its memory.
 #[derive(Clone, Copy, Debug, PartialEq, Eq)]
 pub struct Process {
     /// Its number, from 1 on, which no other process has.
@@ -23,5 +23,5 @@ pub struct Process {
     pub mode: Mode,
 }
 
-/// Where a process stands, or none.
+/// A slot of the table: a process, or none.
 pub type Place = Option<Process>;

@@ -19,13 +19,13 @@ use std::marker::Model;
 use thiserror::Error;
 use unixmodel::process::{Mode, Pending};
 
-/// How many places there are.
+/// How many slots there are.
 pub const PLACES: usize = 64;
 
 /// The last pid that a process gets.
 const LAST_PID: u32 = 2147483647;
 
-/// Why a process was not placed.
+/// Why no slot was given to a process.
 #[derive(Clone, Copy, Debug, PartialEq, Eq, Error)]
 pub enum ProcFault {
     #[error("no place is free")]
@@ -34,19 +34,19 @@ pub enum ProcFault {
     Pids,
 }
 
-/// Where a new process stands, and its pid.
+/// The slot of a new process, and its pid.
 #[derive(Clone, Copy, Debug, PartialEq, Eq)]
 pub struct Seat {
-    /// The number of the place.
+    /// The number of the slot.
     pub place: usize,
     /// The pid of the process.
     pub pid: u32,
 }
 
-/// A zombie that was waited for, and the place that it had.
+/// A zombie that was collected, and the slot that it had.
 #[derive(Clone, Copy, Debug, PartialEq, Eq)]
 pub struct Reaped {
-    /// The number of the place.
+    /// The number of the slot.
     pub place: usize,
     /// The pid of the process.
     pub pid: u32,
@@ -54,7 +54,7 @@ pub struct Reaped {
     pub status: i32,
 }
 
-/// The places, the one that was picked last, the pid that the next process gets, the places that a turn looks at, and
+/// The slots, the one that was picked last, the pid that the next process gets, the slots that a turn looks at, and
 /// those where processes may wait.
 #[derive(Drop)]
 pub struct Table {
@@ -88,7 +88,7 @@ pub fn zombie_child(places: &[Place], parent: u32) -> Option<usize>
     })
 }
 
-// The lesser of the pid that was found and another, which counts where it is above a third.
+// The lesser of the pid that was found and another, which counts where it is above `after`.
 fn lesser(found: Option<u32>, after: u32, pid: u32) -> Option<u32>
     ensures { result ≡ lesser found after pid }
 {
@@ -164,7 +164,7 @@ impl Table {
     ghost use Rattle.proc.specs.Mask.{Passes};
     ghost use Rattle.proc.specs.Waits.{FindsWaiting};
 
-    /// Free places. The first process gets this pid, and a turn looks at each place once at least.
+    /// Free slots. The first process gets this pid, and a turn looks at each slot at least once.
     #[tactic(auto, unfolding(unixmodel::specs::Files::free_slots))]
     pub fn starting_at(pid: u32) -> Table
         requires first { 1 ≤ pid }
@@ -180,7 +180,7 @@ impl Table {
         }
     }
 
-    /// The same processes in the same places.
+    /// The same processes in the same slots.
     pub fn duplicate(&self) -> Table
         ensures { result ≡ self.now }
     {
@@ -197,7 +197,7 @@ impl Table {
         }
     }
 
-    /// All places.
+    /// All slots.
     pub fn places(&self) -> &[Place]
         ensures places { result.now ≡ self.now.places }
         ensures all { length self.now.places ≡ 64 }
@@ -207,7 +207,7 @@ impl Table {
         self.places.as_slice()
     }
 
-    /// The process in a place.
+    /// The process in a slot.
     pub fn process(&self, at: usize) -> Option<&Process>
         ensures process { option_copied result ≡ slot self.now.places at }
         ensures within { IfSome result (λ _. at < 64) }
@@ -218,7 +218,7 @@ impl Table {
         }
     }
 
-    // The process in a place, to be changed there.
+    // The process in a slot, to be changed there.
     fn process_mut(&mut self, at: usize) -> Option<&mut Process>
         ensures* writes_back { sem 𝓛 (LendsProcess self.entry at result) }
         ensures process { option_copied_mut result ≡ slot self.old.places at }
@@ -227,7 +227,7 @@ impl Table {
         self.places.get_mut(at)?.as_mut()
     }
 
-    /// Puts a process in a place.
+    /// Puts a process in a slot.
     pub fn put(&mut self, at: usize, process: Process)
         requires { at < 64 }
         ensures { self.new ≡ record self.old { places = put self.old.places at process } }
@@ -236,7 +236,7 @@ impl Table {
         self.places[at] = Some(process);
     }
 
-    /// The process in a place works in another directory. Nothing changes where the place is free.
+    /// Sets the working directory of the process in a slot. Nothing changes where the slot is free.
     pub fn set_directory(&mut self, at: usize, directory: u32)
         ensures { self.new ≡ changed self.old at (with_directory directory) }
     {
@@ -245,8 +245,8 @@ impl Table {
         }
     }
 
-    /// A descriptor of the process in a place names another open file, or none. Nothing changes where the place is
-    /// free.
+    /// Sets the open file that a descriptor of the process in a slot names, or frees it. Nothing changes where the slot
+    /// is free.
     pub fn set_descriptor(&mut self, at: usize, descriptor: usize, id: Option<u8>)
         requires { descriptor < 16 }
         ensures { self.new ≡ changed self.old at (with_descriptor descriptor id) }
@@ -256,7 +256,7 @@ impl Table {
         }
     }
 
-    /// The process in a place is killed. Nothing changes where the place is free.
+    /// Marks the process in a slot as killed. Nothing changes where the slot is free.
     pub fn mark(&mut self, at: usize)
         ensures { self.new ≡ changed self.old at with_mark }
     {
@@ -265,7 +265,7 @@ impl Table {
         }
     }
 
-    /// The process in a place runs no more: it keeps these registers and this pc. Nothing changes where the place is
+    /// The process in a slot runs no more: it keeps these registers and this pc. Nothing changes where the slot is
     /// free.
     pub fn leave(&mut self, at: usize, registers: &[u64; 32], pc: u64, mode: Mode)
         ensures { self.new ≡ changed self.old at (left registers.now pc mode) }
@@ -277,7 +277,7 @@ impl Table {
         }
     }
 
-    /// The place of the running process.
+    /// The slot of the running process.
     pub fn running(&self) -> Option<usize>
         ensures place { result ≡ place_where self.now.places is_running }
         ensures within { IfSome result (λ i. i < 64) }
@@ -288,7 +288,7 @@ impl Table {
         })
     }
 
-    /// The place of the process with a pid.
+    /// The slot of the process with a pid.
     pub fn find(&self, pid: u32) -> Option<usize>
         ensures place { result ≡ place_where self.now.places (has_pid pid) }
         ensures within { IfSome result (λ i. i < 64) }
@@ -306,7 +306,7 @@ impl Table {
         least_above(self.places.as_slice(), after)
     }
 
-    /// The place that was picked last.
+    /// The slot that was picked last.
     pub fn last(&self) -> usize
         ensures { result ≡ self.now.last }
     {
@@ -320,7 +320,7 @@ impl Table {
         self.next_pid
     }
 
-    // The first place of a child of a process.
+    // The slot of the first child of a process.
     fn first_child(&self, pid: u32) -> Option<usize>
         ensures { result ≡ place_where self.now.places (is_child_of pid) }
     {
@@ -337,14 +337,14 @@ impl Table {
         self.first_child(pid).is_some()
     }
 
-    /// A turn looks at a place again: for whoever may have become ready. Nothing changes where there is no such place.
+    /// A turn looks at a slot again: for whoever may have become ready. Nothing changes where there is no such slot.
     pub fn wake(&mut self, at: usize)
         ensures { self.new ≡ woken self.old at }
     {
         self.awake.set(at);
     }
 
-    /// The first place from one on whose process waits so. It looks only at places where one may.
+    /// The first slot from `from` on whose process waits for that. It looks only at slots where one may.
     pub fn next_waiting(&mut self, kind: WaitKind, from: usize) -> Option<usize>
         requires { from ≤ 64 }
         ensures finds { FindsWaiting self.old.places kind from result }
@@ -354,8 +354,8 @@ impl Table {
         self.waiting.first(self.places.as_slice(), kind, from)
     }
 
-    /// Picks the first ready place in the order from the one after the last picked, ending at that one. It looks at
-    /// those that are awake, and at no place twice: one that isn't ready is awake again once it is woken.
+    /// Picks the first ready slot in the order from the one after the last picked, ending at that one. It looks at
+    /// those that are awake, and at no slot twice: one that isn't ready is awake again once it is woken.
     pub fn pick<F: Fn(&[Place], usize) -> bool>(&mut self, ready: F) -> Option<usize>
         requires callable { F.IsAlwaysCallable ready }
         requires awake { (i : ℕ) → is_awake self.old i ≡ false → Answers F.Fn ready self.old.places i false }
@@ -379,7 +379,7 @@ impl Table {
         None
     }
 
-    /// The place that a pick would find. Nothing changes.
+    /// The slot that a pick would find. Nothing changes.
     pub fn next_ready<F: Fn(&[Place], usize) -> bool>(&self, ready: F) -> Option<usize>
         requires callable { F.IsAlwaysCallable ready }
         requires awake { (i : ℕ) → is_awake self.now i ≡ false → Answers F.Fn ready self.now.places i false }
@@ -404,7 +404,7 @@ impl Table {
         orphan_all(self.places.as_mut_slice(), pid);
     }
 
-    // The process in a place gets a mode.
+    // Sets the mode of the process in a slot.
     fn set_mode(&mut self, at: usize, mode: Mode)
         ensures { self.new ≡ changed self.old at (with_mode mode) }
     {
@@ -413,7 +413,7 @@ impl Table {
         }
     }
 
-    /// The process in a place runs. Nothing changes where the place is free.
+    /// The process in a slot runs. Nothing changes where the slot is free.
     pub fn run(&mut self, at: usize)
         ensures { self.new ≡ changed self.old at (with_mode Running) }
     {
@@ -438,7 +438,7 @@ impl Table {
         }
     }
 
-    // The lowest free place.
+    // The lowest free slot.
     fn free_place(&self) -> Option<usize>
         ensures place { result ≡ free_slot self.now.places }
         ensures within { IfSome result (λ i. i < 64) }
@@ -449,7 +449,7 @@ impl Table {
             .position(|place| place.is_none())
     }
 
-    /// The place and the pid that a new process gets: the lowest free place, and the next pid.
+    /// The slot and the pid that a new process gets: the lowest free slot, and the next pid.
     pub fn next_seat(&self) -> Result<Seat, ProcFault>
         ensures seat { result ≡ seat_of self.now }
         ensures within { IfOk result (λ seat. seat.place < 64) }
@@ -469,7 +469,7 @@ impl Table {
         }
     }
 
-    /// Puts a process in the lowest free place, under the next pid.
+    /// Puts a process in the lowest free slot, under the next pid.
     pub fn alloc(&mut self, process: Process) -> Result<Seat, ProcFault>
         ensures seat { result ≡ seat_of self.old }
         ensures within { IfOk result (λ seat. seat.place < 64) }
@@ -486,8 +486,8 @@ impl Table {
         Ok(seat)
     }
 
-    /// The process in a place ends: it gives up its descriptors and its directory, and becomes a zombie with this
-    /// status, and its children go to process 1. Nothing changes where the place is free.
+    /// The process in a slot ends: it gives up its descriptors and its directory, and becomes a zombie with this
+    /// status, and its children go to process 1. Nothing changes where the slot is free.
     pub fn exit(&mut self, at: usize, status: i32)
         ensures { self.new ≡ exited self.old at status }
     {
@@ -497,7 +497,7 @@ impl Table {
         }
     }
 
-    /// Waits for the first zombie child of a process: its place becomes free. None where there is no zombie child.
+    /// Collects the first zombie child of a process: its slot becomes free. `None` where there is no zombie child.
     pub fn reap(&mut self, parent: u32) -> Option<Reaped>
         ensures reaped { result ≡ reaped_at self.old (zombie_place self.old parent) }
         ensures places { self.new ≡ without self.old (zombie_place self.old parent) }

@@ -20,7 +20,7 @@ pub enum WaitKind {
     Child,
 }
 
-// Whether a call waits so.
+// Whether a call waits for that.
 fn call_waits(kind: WaitKind, call: Call) -> bool
     ensures { result ≡ call_waits kind call }
 {
@@ -31,7 +31,7 @@ fn call_waits(kind: WaitKind, call: Call) -> bool
     }
 }
 
-// Whether in a place a process waits so.
+// Whether the process in a slot waits for that.
 fn waits(place: &Place, kind: WaitKind) -> bool
     ensures { result ≡ holds (waits_so kind) place.now }
 {
@@ -44,8 +44,8 @@ fn waits(place: &Place, kind: WaitKind) -> bool
     }
 }
 
-// The first place from one on whose process waits so, among those where one may. Places before it where none does are
-// taken out.
+// The first slot from `from` on whose process waits for that, among those where one may. Slots before it where none
+// does are taken out.
 fn first_waiting(places: &[Place], may: &mut Mask, kind: WaitKind, from: usize) -> Option<usize>
     requires all { length places.now ≡ 64 }
     requires from { from ≤ 64 }
@@ -64,7 +64,7 @@ fn first_waiting(places: &[Place], may: &mut Mask, kind: WaitKind, from: usize) 
     None
 }
 
-/// Of each kind of wait the places in which a process may wait so. In the others none does.
+/// For each kind of wait the slots in which a process may wait for that. In the others none does.
 #[derive(Drop)]
 pub(crate) struct WaitPlaces {
     sleeps: Mask,
@@ -73,7 +73,7 @@ pub(crate) struct WaitPlaces {
 }
 
 impl WaitPlaces {
-    /// A process may wait in each place.
+    /// A process may wait in each slot.
     pub fn all() -> WaitPlaces
         ensures { result ≡ record { sleeps = all_in 64; transfers = all_in 64; children = all_in 64 } }
     {
@@ -84,7 +84,7 @@ impl WaitPlaces {
         }
     }
 
-    /// The same places.
+    /// The same slots.
     pub fn duplicate(&self) -> WaitPlaces
         ensures { result ≡ self.now }
     {
@@ -95,7 +95,7 @@ impl WaitPlaces {
         }
     }
 
-    /// In a place a process may wait, whatever for. Nothing changes past the last place.
+    /// A process may wait in slot `at`, whatever for. Nothing changes past the last slot.
     pub fn set(&mut self, at: usize)
         ensures { self.new ≡ with_place self.old at }
     {
@@ -104,7 +104,7 @@ impl WaitPlaces {
         self.children.set(at);
     }
 
-    /// The first place from one on whose process waits so.
+    /// The first slot from `from` on whose process waits for that.
     pub fn first(&mut self, places: &[Place], kind: WaitKind, from: usize) -> Option<usize>
         requires all { length places.now ≡ 64 }
         requires from { from ≤ 64 }

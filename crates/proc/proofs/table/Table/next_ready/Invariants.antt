@@ -2,7 +2,7 @@ use Rattle.proc.proofs.Common.{◌-◌, Answers}
 use Rattle.proc.proofs.Waiting.{HasLooked}
 use Rattle.proc.proofs.table.Table.next_ready.Given as goal
 
--- no place of the turns so far is ready
+-- no slot of the turns so far is ready
 abbrev pub invariant-round : goal.invariant-round
 invariant-round g l = HasLooked (Answers g.F.Fn l.ready l.self-inside.places.items) l.self-inside.last l.turn
 

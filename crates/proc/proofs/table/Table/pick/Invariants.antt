@@ -2,7 +2,7 @@ use Rattle.proc.proofs.Common.{◌-◌, ◌≡◌, Answers}
 use Rattle.proc.proofs.Waiting.{IsLooking}
 use Rattle.proc.proofs.table.Table.pick.Given as goal
 
--- the table is as it was but for who is awake, and no place of the turns so far is
+-- the table is as it was, except for who is awake, and no slot of the turns so far is awake
 abbrev pub invariant-round : goal.invariant-round
 invariant-round g l =
     (l.self-inside ≡ record l.initial.self-inside { awake = l.self-inside.awake })
