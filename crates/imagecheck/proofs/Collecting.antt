@@ -1,4 +1,4 @@
--- The entries of all directories, one directory after the other, and what tables of them tell of the files.
+-- The entries of all directories, one directory after the other, and how tables of them describe the files.
 use Rattle.imagecheck.proofs.Common.{◌≡◌, ◌≢◌, ℕ, ◌+◌, ◌<◌, ◌≤◌, Bool, List, [], ◌∷◌, ◌++◌, Some, length, get_or, map}
 use Rattle.imagecheck.proofs.Common.{ap, sym, refl, ◌∙◌, arith, cond, inl, inr, true, false, zero, suc, All, count_by}
 use Rattle.imagecheck.proofs.Common.{filter, flat_map, option_map, slice_get, unwrap_or, ◌&&◌, ◌==◌, range_with_len}
@@ -29,7 +29,7 @@ sum_by-map f g [] = refl
 sum_by-map f g (x ∷ xs) = sum_by-cons f _ (map g xs) ∙ ap (λ s. f (g x) + s) (sum_by-map f g xs)
     ∙ sym (sum_by-cons (λ x. f (g x)) x xs)
 
--- place by place
+-- slot by slot
 pub sum_by-places : {A : Type 0} (f : A → ℕ) (d : A) (xs : List A)
     → sum_by f xs ≡ sum_by (λ k. f (get_or xs k d)) (range_with_len 0 (length xs))
 sum_by-places f d xs = ap (sum_by f) (fill_by_all (λ k. get_or xs k d) xs _ d refl (λ k l. refl))
@@ -41,7 +41,7 @@ sum_by-flat_map f g h e [] = refl
 sum_by-flat_map f g h e (x ∷ xs) =
     rw (sum_by-append f _ (flat_map g xs), e x, sum_by-flat_map f g h e xs) (sym (sum_by-cons h x xs))
 
--- over a range, of what is 0 but at d
+-- over a range, of what is 0 except at d
 sum-at : (h : ℕ → ℕ) (d : ℕ) → ((k : ℕ) → k ≢ d → h k ≡ 0) → (a n : ℕ)
     → (d < a → sum_by h (range_with_len a n) ≡ 0) × (a ≤ d → d < a + n → sum_by h (range_with_len a n) ≡ h d)
 sum-at h d z a zero = (λ past. refl, λ low high. absurd (omega arith))
@@ -56,7 +56,7 @@ sum-at h d z a (suc n) =
       )
     ]
 
--- ---- directory after directory
+-- ---- directory by directory
 
 -- those of the directories before n
 abbrev pub namings_to : List ℕ → ℕ → List Naming
@@ -76,7 +76,7 @@ namings_to-more image n =
 pub namings_to-first : (image : List ℕ) → 0 < inodes_in image → namings_to image 1 ≡ []
 namings_to-first image h = rw (slot-zero image 0 refl h) refl
 
--- what is no directory has none
+-- an inode of another type has no entries
 pub entries-other : (image : List ℕ) → BlockRules image → (n : ℕ) → kind_in image n ≢ 1
     → entries_of (slot (files_in image) n) ≡ []
 entries-other image rules =
@@ -100,9 +100,9 @@ module _ {image : List ℕ} {g : Geometry} {namings : List Naming} (h : IsListed
   numbers-within long e k d l = let high =
       some_high image (get_or namings k d).number (namings-fitting k d l).number in omega (arith, h.geometry.inodes)
 
-  -- ---- what tables tell
+  -- ---- what holds of tables
 
-  -- how many places name a number
+  -- the number of slots that name a number
   pub TellsNames-from : (counts : List ℕ) → CountsNames namings counts → TellsNames image counts
   unfolding names_of
   TellsNames-from counts told n l = told n l
@@ -152,7 +152,7 @@ module _ {image : List ℕ} {g : Geometry} {namings : List Naming} (h : IsListed
       (ne_eqb k d other)) 0 (length files)).1 (omega arith) at_most
       ∙ ap (λ b. cond b (count_by is_folder (entries_of (slot files d))) 0) (eq-eqb d d refl))
 
--- ---- tables of what items tell, one item more at a time
+-- ---- tables of items, one item more at a time
 
 pub counted_more : (counts : List ℕ) (at k : ℕ) → at < length counts
     → get_or (set counts at (get_or counts at 0 + 1)) k 0 ≡ get_or counts k 0 + cond (at == k) 1 0
@@ -176,7 +176,7 @@ first_among p (x ∷ xs) h =
     cond_both (p x) (Some x) _ (λ o. IfSome o HasDirectory) (λ _. All-head HasDirectory x xs h)
     (λ _. first_among p xs (All-tail HasDirectory x xs h))
 
--- behind those that were found before
+-- after those that were found before
 first_or : (o : Option Naming) → IfSome o HasDirectory → (m : Naming)
     → (directory_or_zero o ≡ 0 → directory_or_zero (option_or o (Some m)) ≡ m.directory)
     × (directory_or_zero o ≢ 0 → directory_or_zero (option_or o (Some m)) ≡ directory_or_zero o)
@@ -193,7 +193,7 @@ module _ (namings : List Naming) (i : ℕ) (x : Naming) (within : i < length nam
   abbrev m : Naming
   m = get_or namings i x
 
-  -- the first that names the number that it names
+  -- the first that names m's number
   abbrev first : Option Naming
   first = find (λ (y : Naming). y.number == m.number) (take i namings)
 
@@ -202,7 +202,7 @@ module _ (namings : List Naming) (i : ℕ) (x : Naming) (within : i < length nam
       (cond (m.number == k) (Some m) None))
   found_more k = rw (take_more namings i x within, find-append) refl
 
-  -- a table that tells the same but of its number
+  -- a table that differs at m's number alone
   firsts : (new : List ℕ) → length new ≡ length parents → ((k : ℕ) → k ≢ m.number → get_or new k 0 ≡ get_or parents k 0)
       → get_or new m.number 0 ≡ directory_or_zero (option_or first (Some m)) → HasFirsts (take (i + 1) namings) new
   firsts new long away here n l =

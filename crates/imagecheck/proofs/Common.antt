@@ -1,4 +1,4 @@
--- The names that the lemmas of this crate import from elsewhere, passed on from one place. Declares nothing.
+-- The names from elsewhere that the lemmas of this crate import, in one file. Declares nothing.
 pub use Rattle.std.proofs.Common.{◌&&◌, ◌*◌, ◌+◌, ◌++◌, ◌-◌, ◌/◌, ◌<◌, ◌==◌, [], All, AllPairs, ap, arith, below_more}
 pub use Rattle.std.proofs.Common.{Bool, bytes_eq, cond, count_by, drop, Err, false, filter, flat_map, get_or, IfErr}
 pub use Rattle.std.proofs.Common.{IfSome, inl, inr, is_some, IsSome, IsTrue, length, length-append, List, lt-ltb, map}

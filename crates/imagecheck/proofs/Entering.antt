@@ -1,5 +1,5 @@
--- The places of a directory, one after the other, and what holds of their entries: that names stand once, and what they
--- name.
+-- The slots of a directory, one after the other, and what holds of their entries: that each name occurs once, and what
+-- the entries name.
 use Rattle.imagecheck.proofs.Common.{◌≡◌, ◌≢◌, ℕ, List, [], ◌∷◌, None, Option, Some, get_or, drop, ap, sym, refl, ◌∙◌}
 use Rattle.imagecheck.proofs.Common.{arith, true, false, suc, All, AllPairs, bytes_eq, cond-false, cond-true, cond_both}
 use Rattle.imagecheck.proofs.Common.{false≢true, none-some, All-cons, All-head, All-nil, All-tail, bytes_eq-Decides}
@@ -32,14 +32,14 @@ use Rattle.imagecheck.specs.Entries.{AreNamed, AreOther, HasFronts, IfTaken, nam
 -- ---- what the names of a directory find
 
 module _ (P : Option Entry → Type 0) (none : P None) where
-  -- what holds of each taken place holds of each
+  -- what holds of the entry of each taken slot holds of each slot
   pub holds_taken : (os : List (Option Entry)) → All (λ e. P (Some e)) (taken os) → All P os
   holds_taken [] h = All-nil P
   holds_taken (None ∷ os) h = All-cons P None os none (holds_taken os h)
   holds_taken (Some e ∷ os) h =
       All-cons P _ os (All-head (λ x. P (Some x)) e _ h) (holds_taken os (All-tail (λ x. P (Some x)) e _ h))
 
-  -- and of the place that a name finds
+  -- and of the slot that a name finds
   pub holds_named : (name : List ℕ) (os : List (Option Entry)) → All P os → P (first_named name os)
   holds_named name [] h = none
   holds_named name (o ∷ os) h =
@@ -65,7 +65,7 @@ each_named (Some f ∷ os) h =
     cond-false (bytes_eq f.name e.name) (Some f) (first_named e.name os) (other_name f.name e.name other)
     ∙ each_named os (λ i j x m n. h (suc i) (suc j) x (omega arith) (omega arith)) k d l)
 
--- a name that isn't "." or ".." stands behind these two
+-- a name that isn't "." or ".." comes after these two
 pub behind_dots : (name : List ℕ) (places : List (Option Entry)) (a b : ℕ)
     → slot places 0 ≡ Some (record { name = dot; number = a })
     → slot places 1 ≡ Some (record { name = dot_dot; number = b }) → is_dot_name name ≡ false
@@ -91,7 +91,7 @@ used-is image n low high = elim (cases_eq _ 0) [
 pub none_used : {o : Option Node} → o ≡ None → IsSome o → ⊥
 none_used e used = false≢true (sym (ap is_some e) ∙ used)
 
--- ---- the entries, one place more
+-- ---- the entries, one more slot
 
 taken_one : (o : Option Entry) → taken (o ∷ []) ≡ option_to_list o
 taken_one None = refl
@@ -112,7 +112,7 @@ entries_none bytes = ap taken (drop_all 2 (take 2 (places_in bytes)) (omega (ari
 pub entries_all : (bytes : List ℕ) (k : ℕ) → length bytes / 16 ≤ k → entries_to bytes k ≡ entries_in bytes
 entries_all bytes k h = ap (λ os. taken (drop 2 os)) (take_all k _ (omega (arith, length-places_in bytes)))
 
--- ---- what holds of each entry, place by place
+-- ---- what holds of each entry, slot by slot
 
 module _ (P : Entry → Type 0) where
   taken_holds : (os : List (Option Entry)) → All (IfTaken P) os → All P (taken os)
@@ -146,7 +146,7 @@ module _ (P : Entry → Type 0) where
 
 -- ---- what holds of each number of the files of an image, type by type, and so the rules of entries and of links
 
--- a fact on numbers and what they stand for, by the four types
+-- a property of numbers and their nodes, by the four types
 module _ (image : List ℕ) (b : HasBlocks image) (P : ℕ → Option Node → Type 0)
     (free : (n : ℕ) → (1 ≤ n → n < inodes_in image → kind_in image n ≡ 0) → P n None)
     (directory : (n : ℕ) → 1 ≤ n → n < inodes_in image → kind_in image n ≡ 1
@@ -257,7 +257,7 @@ is_directory-is image n low high = elim (cases_eq _ 0) [
       (major_in image n) (minor_in image n)))
 ]
 
--- ---- names that stand once, told apart by their numbers
+-- ---- names that occur once, told apart by their numbers
 
 number-same : (xs ys : List ℕ) → length xs ≡ length ys → ((i : ℕ) → get_or xs i 0 < 256)
     → ((i : ℕ) → get_or ys i 0 < 256) → number xs ≡ number ys → xs ≡ ys
@@ -271,7 +271,7 @@ number-same (x ∷ xs) (y ∷ ys) l f g e =
     let rest : number xs ≡ number ys = omega arith in
     ap (λ z. z ∷ xs) here ∙ ap (λ r. y ∷ r) (number-same xs ys (omega arith) (λ i. f (suc i)) (λ i. g (suc i)) rest)
 
--- its name is what stands before the zeros of 14 bytes
+-- its name is what comes before the zeros in 14 bytes
 pub record IsTrimmed (e : Entry) : Type 0 where
   pub long : length (name_bytes e.name) ≡ 14
   pub fits : (i : ℕ) → get_or (name_bytes e.name) i 0 < 256
@@ -308,7 +308,7 @@ all-trimmed bytes fits = entries-hold IsTrimmed bytes (λ k high low.
     trimmed-place place (length-take-le 16 (drop (16 * k) bytes) (omega (arith, length-drop (16 * k) bytes)))
     (chunk-fits bytes k fits))
 
--- names are other where their numbers are, and the other way round
+-- names differ where their numbers do, and the other way round
 pub names-from_numbers : (es : List Entry) → AllPairs (λ a b. a ≢ b) (name_numbers es) → AllPairs AreOther es
 names-from_numbers es h i j d l m = λ e.
     h i j 0 l (omega (arith, length-map es name_number))
@@ -326,7 +326,7 @@ numbers-from_names es trimmed h i j d l m = λ e.
 
 -- ---- numbers in order
 
--- those that differ do so in another order
+-- numbers that differ do so in another order
 pub distinct-moved : (xs ys : List ℕ) → IsPermutation xs ys → AllPairs (λ a b. a ≢ b) xs → AllPairs (λ a b. a ≢ b) ys
 distinct-moved xs ys moved h =
     AllPairs-from_IsDistinct Decides-eqb ys
@@ -335,7 +335,7 @@ distinct-moved xs ys moved h =
     xs ys moved
     (IsDistinct-from_AllPairs Decides-eqb xs h))
 
--- what a look at the neighbours of sorted numbers tells
+-- sorted numbers differ where all neighbours do
 pub distinct-sorted : (xs ys : List ℕ) (r : Bool) → IsPermutation xs ys → IsSorted nat_cmp ys
     → IsAllAdjacentAnswer (λ x y b. b ≡ nat_lt x y) ys r
     → IsTrue r ↔ AllPairs (λ a b. a ≢ b) xs

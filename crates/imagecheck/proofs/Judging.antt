@@ -1,4 +1,4 @@
--- What a test decides that is made of others.
+-- A test that is made of others: what its result means.
 use Rattle.std.proofs.Common.{◌≡◌, ◌≢◌, ℕ, Bool, IsTrue, MatchBool, false, inl, inr, not, refl, subst, sym, true, ◌==◌}
 use Rattle.std.proofs.Common.{◌↔◌}
 use Rattle.std.proofs.lemmas.Bool.{cases_eq, eq-eqb, false≢true, iff_false, ne_eqb}

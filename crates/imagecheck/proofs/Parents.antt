@@ -1,4 +1,4 @@
--- The number that a directory's ".." tells.
+-- The number of a directory's "..".
 use Rattle.imagecheck.proofs.Common.{◌≡◌, ◌≢◌, ℕ, ◌<◌, ◌≤◌, List, Some, length, ap, sym, ◌∙◌, arith, subst, Geometry}
 use Rattle.imagecheck.proofs.Common.{slot, Directory, contents_in, inodes_in, kind_in, links_in, HasNames, BlockRules}
 use Rattle.imagecheck.proofs.Common.{HasBlocks, HasBlocks-of, HasGeometry, FitsEntries, HasEntries, files_in, places_in}
@@ -40,7 +40,7 @@ module _ (image : List ℕ) (n : ℕ) (low : 1 ≤ n) (high : n < inodes_in imag
   directory-least b = omega
       (arith, contents-long image b n low high used, (b.inodes.sizes n low high).directory_least directory)
 
--- the bytes of a directory have its first two places
+-- the bytes of a directory hold its first two slots
 pub least-in : {image : List ℕ} {g : Geometry} → HasGeometry image g → BlockRules image → (n : ℕ) → 1 ≤ n
     → n < g.inodes → kind_in image n ≡ 1
     → (bytes : List ℕ) → bytes ≡ contents_in image n → 32 ≤ length bytes
@@ -76,7 +76,7 @@ parent_directory image blocks entries links n h = elim (cases_eq n 1) [
       (parent_leads _ entries links n (ap is_some (slot-directory image n h.low h.high h.kind)) other).2.directory
 ]
 
--- ---- the first two places of a directory, from 32 bytes
+-- ---- the first two slots of a directory, from 32 bytes
 
 first-place : (bytes : List ℕ) → 32 ≤ length bytes → (k : ℕ) → k < 2
     → slot (places_in bytes) k ≡ place_of_bytes (take 16 (drop (16 * k) (take 32 bytes)))
@@ -141,7 +141,7 @@ module _ (image : List ℕ) (blocks : HasBlocks image) (n : ℕ) (h : IsDirector
       ((blocks.inodes.sizes n h.low h.high).directory_least h.kind)
       ∙ front_of image (data_blocks image n) (first_block image n) first-data.0 first-data.1 first-data.2
 
-  -- the number in its second place is its parent
+  -- the number in its second slot is its parent
   pub parent-read : HasEntries (files_in image)
       → number_at 2 (1024 * first_block image n + 16) image ≡ parent_of (files_in image) n
   parent-read entries =

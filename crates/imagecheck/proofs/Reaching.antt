@@ -20,7 +20,7 @@ use Rattle.imagerules.proofs.Denoting.{find-empty, find-root, find-slash, first_
 
 -- ---- entries and parents
 
--- what holds of the entries of each directory holds of all, and the other way round
+-- a property of the entries of each directory is one of all entries, and the other way round
 pub all-entries : (files : Files) (P : ℕ × Entry → Type 0)
     → ((d : ℕ) → All (λ e. P (d, e)) (entries_of (slot files d))) → All P (all_entries files)
 unfolding all_entries
@@ -105,7 +105,7 @@ leads_from files d (Some (Directory (suc links) places)) at e l = λ k x m.
     }
 leads_from files d o at e l = All-nil (λ e. Leads files (d, e))
 
--- what is in use, the root aside, has a name
+-- a node in use, except the root, has a name
 some_name : (files : Files) (n : ℕ) (o : Option Node) → EntriesAt files n o → LinksAt files n o → IsSome o → n ≢ 1
     → 1 ≤ names_of files n
 some_name files n None e l used other = absurd (false≢true used)
@@ -113,7 +113,7 @@ some_name files n (Some (Directory links places)) e l used other = let a = e.nam
     ∙ cond-false (n == 1) 0 1 (ne_eqb n 1 other) in omega arith
 some_name files n o e l used other = let a = l.0 in let b = l.1 in omega arith
 
--- an entry of its parent leads to what is in use
+-- an entry of its parent leads to a node in use
 pub parent_leads : (files : Files) → HasEntries files → HasLinks files → (n : ℕ) → IsSome (slot files n) → n ≢ 1
     → (e : Entry) × (e.number ≡ n) × Leads files (parent_of files n, e)
 parent_leads files entries links n used other =
@@ -152,7 +152,7 @@ module _ (files : Files) (entries : HasEntries files) (links : HasLinks files) w
 
 -- ---- from a path to a chain of parents
 
--- what is a directory climbs to the root
+-- a number that climbs to the root where it is a directory
 abbrev IsClimber : Files → ℕ → Type 0
 IsClimber files n = is_directory_at files n ≡ true → Climbs files n
 
@@ -175,7 +175,7 @@ directory_named files n (Some (Directory links places)) e h other = e.named ∙ 
 directory_named files n o e h other = absurd (false≢true h)
 
 module _ (files : Files) (entries : HasEntries files) where
-  -- the number in a place
+  -- the number in a slot climbs
   abbrev Holds : Option Entry → Type 0
   Holds o = IfSome (entry_number o) (IsClimber files)
 
@@ -225,9 +225,9 @@ module _ (files : Files) (entries : HasEntries files) where
       let path = reached n (used_from (slot files n) directory) in
       (rw (← find-root, path.1) at (follow_climbs (parts path.0) 1 (λ _. record { steps = 0; root = refl }))) directory
 
--- ---- walks up from directories, which mark whom they meet
+-- ---- walks up from directories, which mark the directories that they meet
 
--- a walk from a start has come to n: whom it met is marked with the start
+-- a walk from a start has reached n: the directories that it met are marked with the start
 pub record IsWalk (files : Files) (start n : ℕ) (marks : List ℕ) : Type 0 where
   pub root : slice_index marks 1 ≡ 1
   pub most : (m : ℕ) → slice_index marks m ≤ start
@@ -277,7 +277,7 @@ module _ (files : Files) (start n : ℕ) (marks : List ℕ) (h : IsWalk files st
         ];
       }
 
-  -- it comes to one that an earlier walk met
+  -- it reaches one that an earlier walk met
   pub HasWalked-more : slice_index marks n ≢ 0 → slice_index marks n ≢ start → HasWalked files (start + 1) marks
   HasWalked-more some other = record {
     root = h.root;
@@ -288,7 +288,7 @@ module _ (files : Files) (start n : ℕ) (marks : List ℕ) (h : IsWalk files st
     ];
   }
 
-  -- it comes round to one of its own: none of these climbs to the root
+  -- it reaches one of its own: none of these climbs to the root
   round_on : slice_index marks n ≡ start → (k m : ℕ) → slice_index marks m ≡ start → ancestor files k m ≡ 1 → ⊥
   round_on own zero m here e = let one : slice_index marks m ≡ 1 = ap (λ i. get_or marks i 0) e
       ∙ h.root in absurd (omega arith)
@@ -316,7 +316,7 @@ unmarked_less marks n start within free some =
     sum_by-set (λ m. cond (m == 0) 1 0) marks n start 0 within in
     omega arith
 
--- ---- the walks one after the other
+-- ---- the walks, one after the other
 
 -- at first the root alone is marked
 pub HasWalked-first : (files : Files) (count : ℕ) → 1 < count → HasWalked files 2 (set (replicate count 0) 1 1)

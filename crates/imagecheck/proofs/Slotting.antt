@@ -1,4 +1,4 @@
--- The slots of an inode that are there, one after the other: an index block is read behind the number that names it.
+-- The slots of an inode that are there, one after the other: an index block is read after the number that names it.
 use Rattle.imagecheck.proofs.Common.{◌≡◌, ℕ, ◌<◌, ◌≤◌, IsTrue, List, ap, arith, false, get_or, inl, inr, length, subst}
 use Rattle.imagecheck.proofs.Common.{sym, true, ◌∙◌, cases_lt, nat_tests, cond, nat_lt, ◌==◌, ◌↔◌, is_data_in}
 use Rattle.imagecheck.proofs.Common.{HasGeometry, Geometry, HasSuper, count_in, data_blocks, format_of, is_data_block}
@@ -25,7 +25,7 @@ module _ (image : List ℕ) (n : ℕ) (small : count_in image n ≤ single (form
   abbrev count : ℕ
   count = count_in image n
 
-  -- the k-th of those that are there
+  -- the k-th slot of those that are there
   abbrev nth : ℕ → ℕ
   nth k = slot_at f count k
 
@@ -105,7 +105,7 @@ module _ (image : List ℕ) (n : ℕ) (small : count_in image n ≤ single (form
       above = λ apart held. seen-lies _ (holder-next k _ (holder-first k high apart) held);
     }
 
-  -- what the test of a number tells of its slot
+  -- the test of a number says whether it fits its slot
   pub FitsSlot-is : {g : Geometry} → HasGeometry image g → (k : ℕ)
       → IsTrue (cond (nat_lt k (taken_blocks f count)) (is_data_in g (number_in image n (nth k)))
       (number_in image n (nth k) == 0)) ↔ FitsSlot image n k
@@ -197,7 +197,7 @@ pub first-address : (image : List ℕ) → address_of (format_of image) 0 ≡ 0
 unfolding address_of
 first-address image = let low = direct-low image in grind (arith, nat_tests)
 
--- ---- the number in a slot, from its place: in the record, or in the index block of the slot that holds it
+-- ---- the number in a slot, from its index: in the record, or in the index block of the slot that holds it
 
 module _ (image : List ℕ) (n k : ℕ) {f : Format} (e : f ≡ format_of image) where
   pub number-own : in_record f k ≡ true → {place number : ℕ} → place ≡ address_of f k

@@ -1,4 +1,4 @@
--- What a result of a pass tells, from what the pass before it tells.
+-- The result of a pass, from the result of the pass before it.
 use Rattle.imagecheck.proofs.Common.{Err, List, length, ℕ, ◌≡◌, ◌≤◌, ap, arith, subst, ◌∙◌, IfErr, MatchResult}
 use Rattle.imagecheck.proofs.Common.{DenotesIn, named_blocks, numbers_in_use, Denies, DenotesOwn, Finds, IsOutside}
 use Rattle.imagecheck.proofs.Common.{Tells, HasMagic, IsSummary, err_from_is_err_and, Format, ◌≢◌, cond, ◌==◌, sym}
@@ -39,7 +39,7 @@ Tells-not f image fault.Unreached t i files d = t.1.3 (IsReached-denotes image f
 Tells-not f image fault.Device t i files d = i
 Tells-not f image fault.NoMemory t i files d = i
 
--- a fault is told
+-- a fault is returned
 pub told-err : {T E : Type 0} {fault : E} (r : Result T E) → IsErrAnd r (λ f. f ≡ fault) → r ≡ Err fault
 told-err r told = let p = err_from_is_err_and r told in p.1 ∙ ap Err p.2
 
@@ -53,7 +53,7 @@ one-fault p q = cc
 pub not_device : fault.NoMemory ≡ fault.Device → ⊥
 not_device e = cc
 
--- a pass over an image tells what it finds, and blames no device
+-- what a pass over an image finds is the fault of the image, and never the device's
 pub Finds-told : (f : Format) (image : List ℕ) → HasMagic f image → (fault : ImageFault) → Finds image fault
     → Tells f image fault
 Finds-told f image m fault.Length h = absurd h
@@ -63,13 +63,13 @@ Finds-told f image m fault.Device h = absurd h
 Finds-told f image m fault.NoMemory h = tt
 Finds-told f image m fault h = (m, h)
 
--- what the device or memory is blamed for is told of every image
+-- a fault of the device or of memory says nothing of the image
 pub outside-told : (f : Format) (image : List ℕ) (fault : ImageFault) → IsOutside fault → Tells f image fault
 outside-told f image fault.Device h = tt
 outside-told f image fault.NoMemory h = tt
 outside-told f image fault h = absurd h
 
--- what the check of an image in memory tells
+-- what the check of an image in memory returns
 pub record IsJudged (f : Format) (image : List ℕ) (r : Result Summary ImageFault) : Type 0 where
   pub denotes : OnOk r (DenotesOwn f image)
   pub inodes : IfOk r (λ summary. summary.inodes ≡ length (numbers_in_use image))
@@ -104,9 +104,9 @@ judged-from f image m (Err fault) h =
 pub Rises-before : (a b c : ℕ) → a ≤ b → Rises b c → Rises a c
 Rises-before a b c h r = omega arith
 
--- ---- what the super block of a device of so many blocks tells, if it has this length
+-- ---- what the super block says of a device with that many blocks
 
--- its magic number tells the format of an image
+-- the magic number determines the format of an image
 pub format_of-magic : (format : layout.Format) (image : List ℕ) → HasMagic (format_named format) image
     → format_of image ≡ format_named format
 format_of-magic kinds.Small image m = ap (λ k. cond (k == large.magic) large small) m

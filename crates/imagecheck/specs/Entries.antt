@@ -1,4 +1,4 @@
--- The places of a directory behind "." and "..", one by one.
+-- The slots of a directory after "." and "..", one by one.
 use Rattle.std.specs.Prelude.{All, AllPairs, IsSome, IsTrue, List, None, Option, Some, drop, if◌then◌else◌, map, take}
 use Rattle.std.specs.Prelude.{ℕ, ⊤, ◌<◌, ◌==◌, ◌≡◌, ◌≢◌, ◌≤◌}
 use Rattle.unixmodel.specs.Files.{Entry, dot, dot_dot, name_bytes, slot, taken}
@@ -11,7 +11,7 @@ pub record IsGood (image : List ℕ) (e : Entry) : Type 0 where
   pub name : IsTrue (is_name e.name)
   pub number : IsSome (slot (files_in image) e.number)
 
--- what holds of the entry in a place, if it is taken
+-- what holds of the entry in a slot, if it is taken
 abbrev pub IfTaken : (Entry → Type 0) → Option Entry → Type 0
 IfTaken P None = ⊤
 IfTaken P (Some e) = P e
@@ -19,7 +19,7 @@ IfTaken P (Some e) = P e
 abbrev pub GoodPlace : List ℕ → Option Entry → Type 0
 GoodPlace image o = IfTaken (IsGood image) o
 
--- the entries before place k
+-- the entries before slot k
 abbrev pub entries_to : List ℕ → ℕ → List Entry
 entries_to bytes k = taken (drop 2 (take k (places_in bytes)))
 
@@ -46,7 +46,7 @@ abbrev pub NamesDirectories : List ℕ → Type 0
 NamesDirectories image = (n : ℕ) → 1 ≤ n → n < inodes_in image → kind_in image n ≡ 1
     → HasNames image (contents_in image n)
 
--- a directory starts with ".", which is itself, and "..", which is the one above
+-- a directory begins with ".", which is itself, and "..", which is the one above
 pub record FitsFront (d above : ℕ) (bytes : List ℕ) : Type 0 where
   pub own : slot (places_in bytes) 0 ≡ Some (record { name = dot; number = d })
   pub parent : slot (places_in bytes) 1 ≡ Some (record { name = dot_dot; number = above })
@@ -55,7 +55,7 @@ abbrev pub HasFronts : List ℕ → Type 0
 HasFronts image = (n : ℕ) → 1 ≤ n → n < inodes_in image → kind_in image n ≡ 1
     → FitsFront n (parent_of (files_in image) n) (contents_in image n)
 
--- one place names each directory, and none the root
+-- one slot names each directory, and none the root
 abbrev pub AreNamed : List ℕ → Type 0
 AreNamed image = (n : ℕ) → 1 ≤ n → n < inodes_in image → kind_in image n ≡ 1
     → names_of (files_in image) n ≡ (if n == 1 then 0 else 1)

@@ -15,14 +15,13 @@ use Rattle.imagecheck.specs.declared.ImageFault.{ImageFault}
 use Rattle.imagecheck.specs.declared.ImageFault.TheVariants.{Address, Bitmap, Device, Entry, Length, Links, Magic}
 use Rattle.imagecheck.specs.declared.ImageFault.TheVariants.{NoMemory, NodeType, Numbers, SharedBlock, Size, Unreached}
 
--- the super block is one of the format, and tells this geometry
+-- the super block is one of the format, and says this geometry
 pub record Begins (f : Format) (image : List ℕ) (g : Geometry) : Type 0 where
   pub magic : HasMagic f image
   pub geometry : HasGeometry image g
 
 -- the fault that a pass over an image in memory finds: it holds of an image with a sound super block, and those before
--- it don't;
--- or memory ran out
+-- don't; or memory ran out
 abbrev pub Finds : List ℕ → ImageFault → Type 0
 Finds image NodeType = HasSuper image × (HasKinds image → ⊥)
 Finds image Size = HasSuper image × HasKinds image × (HasSizes image → ⊥)
@@ -45,7 +44,7 @@ Tells f image Device = ⊤
 Tells f image NoMemory = ⊤
 Tells f image fault = HasMagic f image × Finds image fault
 
--- it gives the geometry that the super block tells, or the fault
+-- it gives the geometry that the super block says, or the fault
 abbrev pub TellsGeometry : Format → List ℕ → Result Geometry ImageFault → Type 0
 TellsGeometry f image r = MatchResult r (Begins f image) (Tells f image)
 
@@ -65,7 +64,7 @@ IsOutside fault = ⊥
 abbrev pub Denies : (Files → Type 0) → ImageFault → Type 0
 Denies denotes fault = IsOfImage fault → (files : Files) → denotes files → ⊥
 
--- it holds of each image of so many blocks with this front
+-- it holds of each image of `count` blocks with this front
 abbrev pub OfFront : ℕ → List ℕ → (List ℕ → Type 0) → Type 0
 OfFront count front P = (blocks : List (List ℕ)) → IsFront blocks count front → P (image_of blocks)
 
@@ -73,7 +72,7 @@ OfFront count front P = (blocks : List (List ℕ)) → IsFront blocks count fron
 abbrev pub DenotesOwn : Format → List ℕ → Type 0
 DenotesOwn f image = DenotesIn f image (files_in image)
 
--- it is told whether these blocks have no marks before and none stands twice; they have marks then, beside those before
+-- the result is whether these blocks have no marks before and none occurs twice; they have marks then, beside the old
 abbrev pub MarksMore : List Bool → List Bool → List ℕ → Bool → Type 0
 MarksMore old new blocks told = (before : List ℕ) → HasMarks before old
     → MatchBool told (HasMarks (before ++ blocks) new) (¬ IsOnce (before ++ blocks))

@@ -1,4 +1,4 @@
--- The entries of all directories, each as the directory that it stands in and the number that it names, and tables of
+-- The entries of all directories, each as its directory and the number that it names, and tables of
 -- them.
 use Rattle.std.specs.Prelude.{IsSome, List, Option, count_by, if◌then◌else◌, length, map, option_map, slice_index_or}
 use Rattle.std.specs.Prelude.{unwrap_or, ℕ, ◌&&◌, ◌+◌, ◌<◌, ◌==◌, ◌≡◌, ◌≢◌, ◌≤◌}
@@ -23,7 +23,7 @@ namings_of d entries = map (λ (e : Entry). naming (d, e)) entries
 abbrev pub namings_in : List ℕ → List Naming
 namings_in image = map naming (all_entries (files_in image))
 
--- it stands in a directory's range of numbers, and its number is in use
+-- its directory is in the range of inode numbers, and its number is in use
 pub record IsNaming (image : List ℕ) (m : Naming) : Type 0 where
   pub low : 1 ≤ m.directory
   pub high : m.directory < inodes_in image
@@ -36,12 +36,12 @@ pub record IsListed (image : List ℕ) (g : Geometry) (namings : List Naming) : 
   pub names : NamesDirectories image
   pub all : namings ≡ namings_in image
 
--- ---- what a table tells of some of them
+-- ---- tables of some of them
 
 abbrev pub times_named : List Naming → ℕ → ℕ
 times_named namings n = count_by (λ (m : Naming). m.number == n) namings
 
--- the directory of the first that names n, or 0
+-- the directory of the first one that names n, or 0
 abbrev pub directory_or_zero : Option Naming → ℕ
 directory_or_zero o = unwrap_or (option_map (λ (m : Naming). m.directory) o) 0
 
@@ -69,7 +69,7 @@ abbrev pub CountsSubdirectories : List ℕ → List Naming → List ℕ → Type
 CountsSubdirectories image namings counts = (d : ℕ) → d < length counts
     → slice_index_or counts d 0 ≡ times_holding image namings d
 
--- ---- what a table tells of the files
+-- ---- tables of the files
 
 abbrev pub TellsNames : List ℕ → List ℕ → Type 0
 TellsNames image counts = (n : ℕ) → n < length counts → slice_index_or counts n 0 ≡ names_of (files_in image) n

@@ -4,12 +4,12 @@ use Rattle.unixmodel.specs.Files.{Files}
 use Rattle.unixmodel.specs.Image.{inode_at, inodes_in, kind_in, parent_of}
 use Rattle.unixmodel.specs.Numbers.{number_at}
 
--- the parent of a parent and so on, so many times
+-- the parent of a parent and so on, n steps
 abbrev pub ancestor : Files → ℕ → ℕ → ℕ
 ancestor files zero n = n
 ancestor files (suc k) n = ancestor files k (parent_of files n)
 
--- the chain of parents comes to the root
+-- the chain of parents reaches the root
 pub record Climbs (files : Files) (n : ℕ) : Type 0 where
   pub steps : ℕ
   pub root : ancestor files steps n ≡ 1
@@ -20,13 +20,13 @@ pub record IsDirectoryIn (image : List ℕ) (n : ℕ) : Type 0 where
   pub high : n < inodes_in image
   pub kind : kind_in image n ≡ 1
 
--- the walks from the directories before one have marked whom they met, and each of these climbs
+-- the walks from the directories before `next` have marked those that they met, and each of these climbs
 pub record HasWalked (files : Files) (next : ℕ) (marks : List ℕ) : Type 0 where
   pub root : slice_index marks 1 ≡ 1
   pub before : (n : ℕ) → slice_index marks n < next
   pub climbs : (n : ℕ) → slice_index marks n ≢ 0 → Climbs files n
 
--- the walk from a directory has met one that climbs: so do all whom it marked
+-- the walk from a directory has met one that climbs: so do all that it marked
 abbrev pub HasClimbed : Files → ℕ → List ℕ → Type 0
 HasClimbed files start marks = Climbs files start × HasWalked files (start + 1) marks
 

@@ -1,4 +1,4 @@
--- What the check of an image tells of it, if it denotes files.
+-- What the check of an image reports, if it denotes files.
 use Rattle.std.specs.Prelude.{List, length, ℕ, ◌≡◌}
 use Rattle.unixmodel.specs.Formats.{Format}
 use Rattle.unixmodel.specs.Image.{DenotesIn, named_blocks, numbers_in_use}

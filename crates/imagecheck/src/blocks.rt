@@ -34,7 +34,7 @@ pub fn block_count(image: &[u8], n: usize) -> usize
     (size(image, n) as usize + 1023) / 1024
 }
 
-// A number of an inode's record.
+// A number of an inode's record, by its index.
 fn own_number(image: &[u8], n: usize, place: usize) -> usize
     requires inode { HasPlace image.now n }
     requires place { place < 13 }
@@ -43,7 +43,7 @@ fn own_number(image: &[u8], n: usize, place: usize) -> usize
     number32(image, inode_place(n) + 12 + 4 * place) as usize
 }
 
-// A number of an index block.
+// A number of an index block, by its index.
 fn index_number(image: &[u8], block: usize, place: usize) -> usize
     requires block { 1024 * block + 1024 ≤ length image.now }
     requires place { place < 256 }
@@ -52,7 +52,7 @@ fn index_number(image: &[u8], block: usize, place: usize) -> usize
     number32(image, 1024 * block + 4 * place) as usize
 }
 
-// The number in a slot of an inode: it stands in the record, or in the index block of the slot that holds it.
+// The number in a slot of an inode: it lies in the record, or in the index block of the slot that holds it.
 pub fn number(image: &[u8], n: usize, slot: usize) -> usize
     requires inode { HasPlace image.now n }
     requires found { IsFound image.now n slot }

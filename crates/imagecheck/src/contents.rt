@@ -31,7 +31,7 @@ fn copy_blocks<A: Allocator>(
     Ok(())
 }
 
-// Where the first block of a directory stands.
+// The offset of the first block of a directory.
 pub fn front_place(image: &[u8], geometry: Geometry, n: usize) -> usize
     requires geometry { HasGeometry image.now geometry }
     requires blocks { BlockRules image.now }
@@ -42,7 +42,7 @@ pub fn front_place(image: &[u8], geometry: Geometry, n: usize) -> usize
     1024 * number32(image, inode_place(n) + 12) as usize
 }
 
-/// Puts the bytes of an inode in place of others.
+/// Replaces `bytes` by the bytes of an inode.
 pub fn read_contents<A: Allocator>(
     image: &[u8],
     geometry: Geometry,

@@ -54,7 +54,7 @@ fn test_names(
     Ok(())
 }
 
-// Puts the bytes of a directory, and the numbers of its names, in place of others.
+// Replaces `bytes` by the bytes of a directory, and `names` by the numbers of its names.
 fn read_directory<A: Allocator>(
     image: &[u8],
     geometry: Geometry,
@@ -74,7 +74,7 @@ fn read_directory<A: Allocator>(
     read_names(bytes, names)
 }
 
-// Tests the names of a directory, and appends its entries. Bytes and names are room to work in.
+// Tests the names of a directory, and appends its entries. `bytes` and `names` are room to work in.
 fn test_directory<A: Allocator, B: Allocator>(
     image: &[u8],
     geometry: Geometry,

@@ -1,4 +1,4 @@
-//! The places of a directory, from its bytes.
+//! The slots of a directory, from its bytes.
 
 ghost use Rattle.std.specs.Prelude.{◌↔◌, IsTrue, ◌≡◌, ◌+◌, ◌*◌, ◌/◌, ◌≤◌, ◌==◌, ◌&&◌, All, is_some, length};
 ghost use Rattle.unixmodel.specs.Files.{slot};
@@ -10,7 +10,7 @@ use crate::fields;
 use imagerules::{is_free, is_good_name, name_in, number_in, place_at};
 use layout::Geometry;
 
-// Whether the number is that of an inode in use.
+// Whether a number is that of an inode in use.
 fn is_used(image: &[u8], geometry: Geometry, n: usize) -> bool
     requires { HasGeometry image.now geometry }
     ensures { result ≡ is_some (slot (files_in image.now) n) }
@@ -24,7 +24,7 @@ fn is_used(image: &[u8], geometry: Geometry, n: usize) -> bool
     !fields::is_free(image, n)
 }
 
-// Whether a place is free, or has a name and the number of an inode in use.
+// Whether a slot is free, or has a name and the number of an inode in use.
 fn is_good(image: &[u8], geometry: Geometry, place: &[u8]) -> bool
     requires geometry { HasGeometry image.now geometry }
     requires long { length place.now ≡ 16 }
@@ -39,7 +39,7 @@ fn is_good(image: &[u8], geometry: Geometry, place: &[u8]) -> bool
     is_good_name(name_in(place))
 }
 
-// Whether each place behind the first two is good.
+// Whether each slot after the first two is good.
 pub fn are_good(image: &[u8], geometry: Geometry, bytes: &[u8]) -> bool
     requires geometry { HasGeometry image.now geometry }
     requires least { 32 ≤ length bytes.now }

@@ -8,7 +8,7 @@ ghost use Rattle.imagerules.specs.Fields.{HasPlace, kind_at};
 use byteorder::{ByteOrder, LittleEndian};
 use layout::Kind;
 
-// The number of two bytes at a place.
+// The number of two bytes at an offset.
 pub fn number16(image: &[u8], at: usize) -> u16
     requires { at + 2 ≤ length image.now }
     ensures { result ≡ number_at 2 at image.now }
@@ -16,7 +16,7 @@ pub fn number16(image: &[u8], at: usize) -> u16
     LittleEndian::read_u16(&image[at..])
 }
 
-// The number of four bytes at a place.
+// The number of four bytes at an offset.
 pub fn number32(image: &[u8], at: usize) -> u32
     requires { at + 4 ≤ length image.now }
     ensures { result ≡ number_at 4 at image.now }
@@ -24,7 +24,7 @@ pub fn number32(image: &[u8], at: usize) -> u32
     LittleEndian::read_u32(&image[at..])
 }
 
-// The place of an inode's 64 bytes.
+// The offset of an inode's 64 bytes.
 pub fn inode_place(n: usize) -> usize
     requires { n < 8192 }
     ensures { result ≡ inode_at n }
@@ -32,7 +32,7 @@ pub fn inode_place(n: usize) -> usize
     1024 * (2 + n / 16) + 64 * (n % 16)
 }
 
-/// What an inode is of.
+/// The type of an inode.
 pub fn kind(image: &[u8], n: usize) -> Kind
     requires { HasPlace image.now n }
     ensures { result ≡ kind_at image.now n }
@@ -45,7 +45,7 @@ pub fn kind(image: &[u8], n: usize) -> Kind
     )
 }
 
-// Whether an inode has a type that there is.
+// Whether an inode has a known type.
 pub fn is_known(image: &[u8], n: usize) -> bool
     requires { HasPlace image.now n }
     ensures { IsTrue result ↔ (kind_in image.now n ≤ 3) }

@@ -19,7 +19,7 @@ use crate::tables::{count_names, count_subdirectories, find_parents};
 use layout::Geometry;
 use std::alloc::Allocator;
 
-// Tests the first two places of the directories, and how many entries name each.
+// Tests the first two slots of the directories, and how many entries name each.
 fn test_entries(
     image: &[u8],
     geometry: Geometry,
@@ -68,7 +68,7 @@ fn test_links(
     Ok(())
 }
 
-// Tests the first two places of the directories, from a table of the parents.
+// Tests the first two slots of the directories, from a table of the parents.
 fn test_fronts<A: Allocator>(
     alloc: A,
     image: &[u8],
@@ -105,7 +105,7 @@ fn test_subdirectories<A: Allocator>(
     test_links(image, geometry, counts, &subdirectories)
 }
 
-// Tests what the entries of all directories tell: the first two places, how many name each number, and the links.
+// Tests what follows from the entries of all directories: the first two slots, how many name each number, and the
 fn test_namings<A: Allocator>(
     alloc: A,
     image: &[u8],

@@ -1,4 +1,4 @@
-//! The first two places of directories, "." and "..", and how many places name a directory.
+//! The first two slots of directories, "." and "..", and how many slots name a directory.
 
 ghost use Rattle.std.specs.Prelude.{◌↔◌, IsTrue, ◌≡◌, ◌≤◌, ◌==◌, if◌then◌else◌, Some, length};
 ghost use Rattle.unixmodel.specs.Image.{contents_in};
@@ -14,7 +14,7 @@ use crate::fields::is_directory;
 use imagerules::{are_same, is_free, name_in, number_in, place_at};
 use layout::Geometry;
 
-// Whether a place has this name and number.
+// Whether a slot has this name and number.
 fn holds(place: &[u8], name: &[u8], number: usize) -> bool
     requires { length place.now ≡ 16 }
     ensures { IsTrue result ↔ (place_of_bytes place.now ≡ Some (record { name = name.now; number = number })) }
@@ -28,7 +28,7 @@ fn holds(place: &[u8], name: &[u8], number: usize) -> bool
     are_same(name_in(place), name)
 }
 
-// Whether the first two places of directory n are ".", which is itself, and "..", which is its parent.
+// Whether the first two slots of directory n are ".", which is itself, and "..", which is its parent.
 fn fits_front(bytes: &[u8], n: usize, parent: usize) -> bool
     requires { 32 ≤ length bytes.now }
     ensures { IsTrue result ↔ FitsFront n parent bytes.now }
@@ -50,7 +50,7 @@ fn has_front(image: &[u8], geometry: Geometry, n: usize, parent: usize) -> bool
     fits_front(&image[at..at + 32], n, parent)
 }
 
-// Whether the first two places of each directory are itself and its parent.
+// Whether the first two slots of each directory are itself and its parent.
 pub fn has_fronts(image: &[u8], geometry: Geometry, parents: &[u16]) -> bool
     requires geometry { HasGeometry image.now geometry }
     requires blocks { BlockRules image.now }
@@ -73,7 +73,7 @@ fn fits_names(n: usize, names: usize) -> bool
     if n == 1 { names == 0 } else { names == 1 }
 }
 
-// Whether one place names each directory, and none the root.
+// Whether one slot names each directory, and none the root.
 pub fn are_named(image: &[u8], geometry: Geometry, counts: &[usize]) -> bool
     requires geometry { HasGeometry image.now geometry }
     requires long { length counts.now ≡ geometry.inodes }

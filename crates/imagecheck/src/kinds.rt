@@ -23,7 +23,7 @@ pub fn has_kinds(image: &[u8], geometry: Geometry) -> bool
     is_directory(image, 1)
 }
 
-// Whether an inode of this kind may have this size in bytes, if a file has so many at most.
+// Whether an inode of this kind may have this size in bytes, where `longest` is the longest of a file.
 fn fits_kind(longest: usize, kind: Kind, size: usize) -> bool
     ensures { IsTrue result ↔ FitsKind longest (kind_number kind) size }
 {

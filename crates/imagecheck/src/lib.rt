@@ -50,7 +50,7 @@ pub enum ImageFault {
     Bitmap,
     /// An inode has a size that its type can't have.
     Size,
-    /// A place of a directory is wrong.
+    /// A slot of a directory is wrong.
     Entry,
     /// A count of links is wrong.
     Links,
@@ -63,7 +63,7 @@ pub enum ImageFault {
 }
 
 impl ImageFault {
-    // What it says to a person.
+    // The message for a person.
     fn text(&self) -> &'static str {
         match self {
             Self::Length => "the device has another number of blocks than the super block says",

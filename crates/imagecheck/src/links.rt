@@ -11,7 +11,7 @@ use crate::fields::{kind, links};
 use layout::{Geometry, Kind};
 
 // Whether an inode of this kind may have this count of links: a directory one more than its subdirectories, a file or a
-// device as many as there are places that name it.
+// device as many as there are slots that name it.
 fn fits_links(kind: Kind, links: usize, names: usize, subdirectories: usize) -> bool
     ensures { IsTrue result ↔ FitsLinks (kind_number kind) links names subdirectories }
 {

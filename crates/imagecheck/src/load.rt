@@ -11,7 +11,7 @@ use blockdev::{BLOCK_SIZE, Block, BlockDev};
 use layout::{Format, Geometry, LayoutFault, SuperBlock};
 use std::alloc::Allocator;
 
-// The geometry that the super block tells of a device of so many blocks, if its numbers and the length are right in the
+// The geometry that the super block says of a device of `count` blocks, if its numbers and the length are right in the
 // format.
 pub fn geometry_in(format: Format, block: &Block, count: usize) -> Result<Geometry, ImageFault>
     requires { 2 ≤ count }

@@ -14,7 +14,7 @@ use crate::fields::is_free;
 use crate::slots::{index_blocks, slot_at};
 use layout::Geometry;
 
-// Marks a block, and tells whether it had no mark.
+// Marks a block, and returns whether it had no mark.
 fn mark(marks: &mut [bool], block: usize) -> bool
     requires { block < length marks.old }
     ensures free { result ≡ not (slice_index_or marks.old block false) }
@@ -25,7 +25,7 @@ fn mark(marks: &mut [bool], block: usize) -> bool
     free
 }
 
-// Marks the blocks that an inode names, up to the first that has a mark, and tells whether there was none.
+// Marks the blocks that an inode names, up to the first that has a mark, and returns whether there was none.
 fn mark_all(image: &[u8], n: usize, marks: &mut [bool]) -> bool
     requires inode { HasInode image.now n }
     requires addresses { FitsAddresses image.now n }
@@ -59,7 +59,7 @@ fn mark_inode(image: &[u8], geometry: Geometry, n: usize, marks: &mut [bool]) ->
     mark_all(image, n, marks)
 }
 
-// Marks each block that an inode names, and tells whether none is named twice.
+// Marks each block that an inode names, and returns whether none is named twice.
 pub fn names_once(image: &[u8], geometry: Geometry, marks: &mut [bool]) -> bool
     requires geometry { HasGeometry image.now geometry }
     requires sizes { HasSizes image.now }

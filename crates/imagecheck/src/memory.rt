@@ -16,7 +16,7 @@ use blockdev::BLOCK_SIZE;
 use layout::{Format, Geometry};
 use std::alloc::Allocator;
 
-// The geometry that the super block tells, if its numbers and the length are right in the format.
+// The geometry that the super block says, if its numbers and the length are right in the format.
 fn geometry_of(format: Format, image: &[u8]) -> Result<Geometry, ImageFault>
     ensures judged { TellsGeometry (format_named format) image.now result }
     ensures own { IfErr result IsOfImage }
@@ -47,7 +47,7 @@ pub fn check_bytes<A: Allocator>(
     summary_of(alloc, image, geometry)
 }
 
-/// Tests bytes in memory as `check1` tests those of a device, and tells the numbers of their super block. No fault is
+/// Tests bytes in memory as `check1` tests those of a device, and returns their geometry. No fault is
 /// `Device`.
 pub fn check1_bytes<A: Allocator>(alloc: A, image: &[u8]) -> Result<Geometry, ImageFault>
     ensures geometry { IfOk result (λ g. HasGeometry image.now g) }

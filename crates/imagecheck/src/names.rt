@@ -9,7 +9,7 @@ use byteorder::{ByteOrder, LittleEndian};
 use imagerules::{is_free, place_at};
 use std::alloc::{AllocError, Allocator};
 
-// Appends the number of the name in a place, if it is taken.
+// Appends the number of the name in a slot, if it is taken.
 fn add_name<A: Allocator>(place: &[u8], names: &mut Vec<u128, A>) -> Result<(), AllocError>
     requires { length place.now ≡ 16 }
     ensures { OnOk result (names.new.items ≡ names.old.items
@@ -22,7 +22,7 @@ fn add_name<A: Allocator>(place: &[u8], names: &mut Vec<u128, A>) -> Result<(), 
     Ok(())
 }
 
-// Puts the numbers of the names of a directory with these bytes in place of others.
+// Replaces `names` by the numbers of the names of a directory with these bytes.
 pub fn read_names<A: Allocator>(bytes: &[u8], names: &mut Vec<u128, A>) -> Result<(), AllocError>
     requires { 32 ≤ length bytes.now }
     ensures { OnOk result (names.new.items ≡ name_numbers (entries_in bytes.now)) }

@@ -1,4 +1,4 @@
-//! The entries of all directories, each as the directory that it stands in and the number that it names.
+//! The entries of all directories, each as its directory and the number that it names.
 
 ghost use Rattle.std.specs.Prelude.{◌≡◌, ◌+◌, ◌≤◌, ◌++◌, length, OnOk};
 ghost use Rattle.std.specs.Option.{option_to_list};
@@ -12,13 +12,13 @@ use std::alloc::{AllocError, Allocator};
 // An entry of a directory.
 #[derive(Clone, Copy)]
 pub struct Naming {
-    // The directory that it stands in.
+    // The directory that it is in.
     pub directory: u16,
     // The number that it names.
     pub number: u16,
 }
 
-// Appends the entry in a place, if it is taken.
+// Appends the entry in a slot, if it is taken.
 fn add_entry<A: Allocator>(
     place: &[u8],
     directory: u16,

@@ -27,8 +27,8 @@ fn parent(image: &[u8], geometry: Geometry, n: usize) -> usize
     number16(image, front_place(image, geometry, n) + 16) as usize
 }
 
-// Goes from a directory up to the first that has a mark, and marks with the start's number those on the way. Tells
-// whether it came to one that an earlier walk met, or else round to one of its own.
+// Goes from a directory up to the first that has a mark, and marks those on the way with the start's number. Returns
+// whether it reached one that an earlier walk met, and not one of its own.
 fn climb(image: &[u8], geometry: Geometry, start: usize, marks: &mut [u16]) -> bool
     requires geometry { HasGeometry image.now geometry }
     requires blocks { BlockRules image.now }
@@ -48,7 +48,7 @@ fn climb(image: &[u8], geometry: Geometry, start: usize, marks: &mut [u16]) -> b
     marks[n] as usize != start
 }
 
-// Climbs from each directory. Each is met once, by the first walk that comes to it.
+// Climbs from each directory. Each is met once, by the first walk that reaches it.
 fn test_climbs(image: &[u8], geometry: Geometry, marks: &mut [u16]) -> Result<(), ImageFault>
     requires geometry { HasGeometry image.now geometry }
     requires blocks { BlockRules image.now }

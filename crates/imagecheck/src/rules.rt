@@ -99,7 +99,7 @@ pub fn summary_of<A: Allocator>(
     })
 }
 
-// Tests that an image denotes files in a format, where it stands if the device has it in memory, else in a copy.
+// Tests that an image denotes files in a format: in the device's memory, if the device lends it, else in a copy.
 fn check_in<A: Allocator, D: BlockDev>(
     alloc: A,
     device: &mut D,
@@ -125,10 +125,10 @@ fn check_in<A: Allocator, D: BlockDev>(
 }
 
 /// Tests that an image denotes files: its length, its super block, its inodes, the blocks that they name,
-/// the places of its directories, the counts of links, and that a path reaches each inode in use. What a device lends
-/// in memory (`as_bytes`) is looked at where it stands, with no access; else all blocks are read into a copy.
+/// the slots of its directories, the counts of links, and that a path reaches each inode in use. What a device lends
+/// in memory (`as_bytes`) is read there, with no access; else all blocks are read into a copy.
 ///
-/// The fault is that of the first rule that the image breaks, in the order that `ImageFault` tells. An image that has
+/// The fault is that of the first rule that the image breaks, in the order of `ImageFault`. An image that has
 /// one denotes no files.
 pub fn check<A: Allocator, D: BlockDev>(alloc: A, device: &mut D) -> Result<Summary, ImageFault>
     ensures denotes { OnOk result

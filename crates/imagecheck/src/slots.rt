@@ -1,4 +1,4 @@
-//! Where the numbers of an inode's blocks stand in a format: in its record, or in an index block.
+//! Where the numbers of an inode's blocks lie in a format: in its record, or in an index block.
 
 ghost use Rattle.std.specs.Prelude.{◌≡◌, ◌+◌, ◌*◌, ◌<◌, ◌≤◌, false, true};
 ghost use Rattle.layout.specs.Formats.{format_named};
@@ -16,7 +16,7 @@ pub fn single(format: Format) -> usize
     format.direct() + 256 + 65536 * (12 - format.direct())
 }
 
-// Whether a slot stands in the record.
+// Whether a slot lies in the record.
 #[tactic(auto, unfolding(unixmodel::specs::Slots::in_record))]
 pub fn is_in_record(format: Format, slot: usize) -> bool
     ensures { result ≡ in_record (format_named format) slot }
@@ -25,7 +25,7 @@ pub fn is_in_record(format: Format, slot: usize) -> bool
     slot < format.direct() || slot == single || slot == single + 1
 }
 
-// At which place of the record's numbers it stands there.
+// The index in the record's numbers of a slot that lies there.
 #[tactic(auto, unfolding(unixmodel::specs::Slots::address_of, unixmodel::specs::Slots::in_record))]
 pub fn address_of(format: Format, slot: usize) -> usize
     requires own { in_record (format_named format) slot ≡ true }
@@ -41,7 +41,7 @@ pub fn address_of(format: Format, slot: usize) -> usize
     }
 }
 
-// The slot of the index block that a slot stands in.
+// The slot of the index block that a slot lies in.
 #[tactic(auto, unfolding(unixmodel::specs::Slots::holder_of, unixmodel::specs::Slots::in_record))]
 pub fn holder_of(format: Format, slot: usize) -> usize
     requires apart { in_record (format_named format) slot ≡ false }
@@ -59,7 +59,7 @@ pub fn holder_of(format: Format, slot: usize) -> usize
     single + 1
 }
 
-// At which place of that block's numbers it stands.
+// The index of a slot in that block's numbers.
 #[tactic(auto, unfolding(unixmodel::specs::Slots::place_of, unixmodel::specs::Slots::in_record))]
 pub fn place_of(format: Format, slot: usize) -> usize
     requires apart { in_record (format_named format) slot ≡ false }
@@ -78,7 +78,7 @@ pub fn place_of(format: Format, slot: usize) -> usize
     slot - (single + 2)
 }
 
-// How many index blocks so many data blocks need.
+// How many index blocks `count` data blocks need.
 pub fn index_blocks(format: Format, count: usize) -> usize
     requires { count ≤ single (format_named format) }
     ensures told { result ≡ index_blocks (format_named format) count }
@@ -91,7 +91,7 @@ pub fn index_blocks(format: Format, count: usize) -> usize
     if count > direct { 1 } else { 0 }
 }
 
-// Where the places of data blocks end: with the record, or with the last index block.
+// Where the slots of data blocks end: with the record, or with the last index block.
 #[tactic(auto, unfolding(unixmodel::specs::Slots::data_end))]
 fn data_end(format: Format, count: usize) -> usize
     requires { count ≤ single (format_named format) }
@@ -106,7 +106,7 @@ fn data_end(format: Format, count: usize) -> usize
     if count > direct { near } else { direct }
 }
 
-// How many slots are there for an inode of so many data blocks, the spare ones included.
+// How many slots there are for an inode of `count` data blocks, the spare ones included.
 #[tactic(auto, unfolding(unixmodel::specs::Slots::index_end))]
 pub fn there(format: Format, count: usize) -> usize
     requires { count ≤ single (format_named format) }
@@ -121,7 +121,7 @@ pub fn there(format: Format, count: usize) -> usize
     data_end(format, count) + index
 }
 
-// The slots that are there, one after the other: those of the index blocks, each behind its holder, those of the data,
+// The slots that are there, one after the other: those of the index blocks, each after its holder, those of the data,
 // and the spare ones.
 #[tactic(auto, unfolding(unixmodel::specs::Slots::slot_at, unixmodel::specs::Slots::asked_slot))]
 pub fn slot_at(format: Format, count: usize, k: usize) -> usize

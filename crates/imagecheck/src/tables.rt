@@ -1,4 +1,4 @@
-//! What the entries of all directories tell of each number, in tables.
+//! Tables of all numbers, from the entries of all directories.
 
 ghost use Rattle.std.specs.Prelude.{◌≡◌, ◌<◌, ◌≤◌, All, length};
 ghost use Rattle.imagerules.specs.Fields.{HasGeometry};

@@ -3,7 +3,7 @@ use Rattle.imagecheck.proofs.Slotting.{holder-found, holder-lies, holder-up, num
 use Rattle.imagecheck.proofs.blocks.+number.Goals as goal
 use Rattle.imagecheck.proofs.blocks.+number.Goals.{After-holder_of}
 
--- the slot stands in an index block
+-- the number lies in an index block
 apart : (t : ℕ) (c : After-holder_of t) → in_record (format_named c.format_of-format.result) c.args.slot ≡ false
 apart t c = sym c.is_in_record.ensures ∙ c.if-is_in_record.false
 

@@ -14,7 +14,7 @@ within : (c : After-slot_at) → c.loop-k.k < there (format_of c.args.image.now)
 within c = rw (c.there-k-end.ensures, c.format_of-format.ensures, c.block_count-count.ensures.count)
     at c.loop-k-test.true
 
--- what the test tells of it
+-- the test of its number
 fits-is : (c : After-fits) → IsTrue c.fits.result ↔ FitsSlot c.args.image.now c.args.n c.loop-k.k
 fits-is c =
     rw (

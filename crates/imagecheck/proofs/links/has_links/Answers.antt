@@ -6,7 +6,7 @@ use Rattle.imagecheck.proofs.Entering.{FitsLinks-at, HasLinks-from, LinksFit}
 use Rattle.imagecheck.proofs.links.has_links.Goals as goal
 use Rattle.imagecheck.proofs.links.has_links.Goals.{After-fits_links}
 
--- what the test of a count tells
+-- the test of a count
 fits-is : (c : After-fits_links) → IsTrue c.fits_links.result ↔ LinksFit c.args.image.now c.loop-n.n
 fits-is c =
     let in_names : c.loop-n.n < length c.args.names.now = omega (arith, c.requires.names_long, c.loop-n-test.true) in
