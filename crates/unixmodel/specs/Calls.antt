@@ -68,7 +68,7 @@ pub record After : Type 0 where
 abbrev pub quiet : State → After
 quiet s = record { state = s; bytes = [] }
 
--- the process that marked itself gets its answer, and then ends with -1
+-- a process that marked itself gets its result, and then ends with -1
 abbrev pub end_if_killed : State → ℕ → Option Process → State
 end_if_killed s i None = s
 end_if_killed s i (Some p) = if p.killed then end_process s i p (negsuc 0) else reap s
@@ -77,7 +77,7 @@ abbrev pub end_at : State → ℕ → ℤ → Option Process → State
 end_at s i status None = s
 end_at s i status (Some p) = end_process s i p status
 
--- what an outcome makes of the state; a refusal leaves state s but for the answer
+-- what an outcome makes of the state; a refusal leaves state s, except for the result
 abbrev pub settle : State → ℕ → Outcome → After
 settle s i Refused = quiet (change_process s i (with_answer minus_one))
 settle s i (Done new answer bytes) =
@@ -94,17 +94,17 @@ outcome_of s i p (Some number) = limited (row s i p number)
 abbrev pub outcome : State → ℕ → Process → Outcome
 outcome s i p = outcome_of s i p (call_of (low (arg p 7)))
 
--- the pc goes on by 4 as the call begins
+-- the pc advances by 4 as the call begins
 abbrev pub entered : Process → Process
 entered p = record p { pc = plus p.pc 4 }
 
--- the call of process p, which runs in place i
+-- the call of process p, which runs in slot i
 unfoldable pub call : State → ℕ → Process → After
 call s i p =
     let begun = put_process s i (entered p) in
     settle begun i (outcome begun i (entered p))
 
--- process p in place i, picked, goes on with its pending call
+-- process p in slot i, picked, goes on with its pending call
 unfoldable pub resume : State → ℕ → Process → Pending → After
 resume s i p w =
     let begun = put_process s i (with_mode Running p) in

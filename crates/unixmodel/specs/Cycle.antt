@@ -1,4 +1,4 @@
--- One instruction from its address on: the word at the pc is fetched, read and acted.
+-- One instruction from its address on: the word at the pc is fetched, decoded and executed.
 -- From the RISC-V unprivileged manual; a fetch reads memory as it is now.
 use Rattle.std.specs.Prelude.{List, None, Option, Some, ℕ}
 use Rattle.unixmodel.specs.declared.instr.Instr.{Instr}

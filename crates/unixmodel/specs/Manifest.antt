@@ -61,7 +61,7 @@ node_for n d Folder = bare_directory n d
 node_for n d (Bytes bytes) = File 1 bytes
 node_for n d (Special major minor) = Device 1 major minor
 
--- a directory with a name more, at its end
+-- a directory with one more name, at its end
 abbrev pub appended : Entry → Node → Node
 appended e (File links bytes) = File links bytes
 appended e (Device links major minor) = Device links major minor

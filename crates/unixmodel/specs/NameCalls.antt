@@ -51,7 +51,7 @@ emptied (File links bytes) = File links []
 emptied (Device links major minor) = Device links major minor
 emptied (Directory links places) = Directory links places
 
--- a directory: the one above has a link more
+-- a directory: the one above has one more link
 abbrev pub new_directory : ℕ → ℕ → Node
 new_directory parent n =
     Directory 1 (Some (record { name = dot; number = n }) ∷ Some (record { name = dot_dot; number = parent }) ∷ [])
@@ -67,7 +67,7 @@ made_below files at (Some parent) =
 unfoldable pub made_directory : Files → Spot → Option Files
 made_directory files at = made_below files at (slot files at.directory)
 
--- ---- link: the files with a name more for number n
+-- ---- link: the files with one more name for number n
 
 abbrev pub linked_node : Files → Spot → ℕ → Option Node → Option Files
 linked_node files at n None = None
@@ -101,7 +101,7 @@ unlinked files at =
     (lookup files at.directory at.name))
     (place_of files at.directory at.name)
 
--- ---- the rows; process p in place i makes the call, and its pc has moved already
+-- ---- the rows; process p in slot i makes the call, and its pc has moved already
 
 -- the path in an argument
 abbrev pub path_arg : Process → ℕ → Option (List ℕ)

@@ -52,7 +52,7 @@ acted s i p (Err t) = trapped s i p t.cause
 unfoldable pub effect_of : Process → Effect
 effect_of p = cycle p.registers p.pc p.memory
 
--- the running process, in place i, does an instruction
+-- the running process, in slot i, does an instruction
 unfoldable pub execute : State → ℕ → Process → After
 execute s i p = acted s i p (effect_of p)
 
@@ -68,7 +68,7 @@ picked_in s i p (Zombie status) = quiet s
 abbrev pub picked : State → ℕ → Process → After
 picked s i p = if p.killed then quiet (end_process s i p (negsuc 0)) else picked_in s i p p.mode
 
--- place i is picked
+-- slot i is picked
 abbrev pub pick : State → ℕ → Option Process → After
 pick s i None = quiet s
 pick s i (Some p) = picked (record s { last = i }) i p
