@@ -140,7 +140,7 @@ root-held (suc (suc m)) more (suc (suc n)) =
     let other : (1 == suc (suc n)) ≡ false = grind (arith, nat_tests) in
     rw other (same-past ℕ 0 m n)
 
--- a tree that was read since
+-- a tree that was read in between
 module _ {old tree : FileTree} (unheld : IsUnheld old) (same : tree ≡ record old { failures = tree.failures })
     (whole : IsWhole tree) where
   files_same : tree.files ≡ old.files
@@ -240,14 +240,14 @@ module _ {old mid : FileTree} (unheld : IsUnheld old) (same : mid ≡ record old
           later = later;
         })
 
--- ---- what /init has process 1 execute, and how it comes into the first place
+-- ---- what process 1 executes of /init, and how it is put into the first slot
 
 -- ---- the plan of /init
 
 abbrev plan_of : Option (List ℕ) → Option Plan
 plan_of = option_and_then (λ file. plan file (init_path ∷ []))
 
--- of the file that its path finds
+-- the plan is that of the file that the path finds
 plan_found : (files : Files) (n : ℕ) → find files 1 init_path ≡ Some n
     → init_plan files ≡ plan_of (file_bytes (slot files n))
 unfolding init_plan
@@ -300,7 +300,7 @@ abbrev Programs : FileTree → FileTree → ℕ → Option Program → Type 0
 Programs mid new n told = IsRead mid new told (option_and_then program_in (file_bytes (slot mid.files n)))
     × IfSome told (λ program. program.pages ≤ 2 ^ 52)
 
--- and what is told of /init
+-- and what is returned for /init
 abbrev Answered : FileTree → FileTree → ℕ → Option Init → Type 0
 Answered old new frames told = Serves old new (Ok told) (λ told. Leaves old new told × FindsInit old.files frames told)
 
@@ -351,7 +351,7 @@ module _ {old mid : FileTree} {number : Option ℕ} (serves : Serves old mid (Ok
       pub few : program.pages ≤ 2 ^ 52
       few = subst (λ o. IfSome o (λ (p : Program). p.pages ≤ 2 ^ 52)) is reads.told.1
 
-      -- so many pages come to that many frames
+      -- the frames for that many pages
       module _ (frames : ℕ) {needed : ℕ} (count : needed ≡ 3 + page_frames (program.pages + 2)) where
         pub large-init : frames ≤ needed → Answered old new frames None
         large-init over = tells frames None (too-long old.files n program found has frames (omega (arith, over, count)))
@@ -377,7 +377,7 @@ module _ {old mid : FileTree} {number : Option ℕ} (serves : Serves old mid (Ok
               plan = plan-passed old.files n program found has (Some a) passes;
             })
 
--- ---- putting it in its place
+-- ---- putting it into its slot
 
 module _ (files : Files) (frames : ℕ) (init : Init) (is : IsInit files frames init) where
   program-of : IsProgram (file_at files init.number) init.program
@@ -416,7 +416,7 @@ module _ (files : Files) (frames : ℕ) (init : Init) (is : IsInit files frames 
 pub taken-none : (frames : ℕ) → taken_frames (no_spaces frames) ≡ 0
 taken-none frames = omega (arith, no-frames 64)
 
--- what its loading asks for
+-- what its loading requires
 pub record IsReady (tree : FileTree) (made : Spaces) (init : Init) : Type 0 where
   pub file : IsFile tree.files init.number
   pub program_is : program_in (file_at tree.files init.number) ≡ Some init.program
@@ -453,7 +453,7 @@ module _ {old mid : FileTree} {told : Option Init} {frames : ℕ} (serves : Answ
         room = omega (arith, none_there, ap (λ (x : Spaces). x.frames) alone-now, fits);
       }
 
-  -- /init is in its place
+  -- /init is in its slot
   pub in-place : (new : Spaces)
       → ((l : Loaded) → loaded_of (file_at mid.files init.number) ≡ Some l
       → new ≡ with_view made 0 (paged (stacked l.pages init.arguments.page))) → IsInPlace old.files s.frames new init
@@ -507,7 +507,7 @@ module _ {D : Type 0} (identity : D → List ℕ) (count : D → ℕ) (disk : D)
   refused-from (Ok m) why = tt
   refused-from (Err f) why = unbooted f why
 
--- where the count is in range the fault isn't that
+-- where the count of frames is in range the fault isn't `FrameCount`
 pub counted-from : {D : Type 0} (identity : D → List ℕ) (count : D → ℕ) (tree : FileTree) (frames : ℕ) → 64 ≤ frames
     → frames ≤ 32768 → (r : Result View BootFault) → IfErr r (IsNotBegun identity count tree frames)
     → IsErrOf r FrameCount ↔ ((frames < 64) ⊎ (32768 < frames))

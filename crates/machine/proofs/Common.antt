@@ -1,4 +1,4 @@
--- The names that the lemmas of this crate import from elsewhere, passed on from one place. Declares nothing.
+-- The names from elsewhere that the lemmas of this crate import, in one file. Declares nothing.
 pub use Rattle.std.proofs.Common.{◌%◌, ◌*◌, ◌+◌, ◌++◌, ◌-◌, ◌/◌, ◌<◌, [], ◌^◌, ap, append-nil, arith, Bool, drop, Err}
 pub use Rattle.std.proofs.Common.{false, is_some, le_refl, le_trans, length, length-append, List, min, None, Ok, Option}
 pub use Rattle.std.proofs.Common.{refl, replicate, Result, Some, subst, suc, sym, take, true, zero, ℕ, ℤ, ◌↔◌, ◌∙◌, ◌∷◌}

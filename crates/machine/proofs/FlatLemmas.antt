@@ -151,7 +151,7 @@ first-placed : (h : SpaceView) → IsPlaced (first h.size) h
 unfolding flat_descriptors free_slots zeros
 first-placed h = record { zero = refl; aligned = refl; mode = record { descriptors = refl } }
 
--- what holds of a process and of a free place holds of each, where it stands alone in the first
+-- what holds of a process and of a free slot holds of each slot, where the process is alone in the first
 pub first-alone : (P : Option Process → Type 0) (p : Process) → P (Some p) → P None → (i : ℕ)
     → P (slot (Some p ∷ free_slots 63) i)
 unfolding free_slots
@@ -188,7 +188,7 @@ one-home p home n =
 
 -- ---- the first open files
 
--- the console takes the first place
+-- the console takes the first slot
 pub open-first : (t new : List (Option Counted)) (r : Result ℕ FileFault) (f : OpenFile) → t ≡ free_slots 100
     → r ≡ place_for (opens_of t) → IfOk r (λ i. new ≡ opened t i f)
     → new ≡ Some (record { file = f; count = 1 }) ∷ replicate 99 None
@@ -303,7 +303,7 @@ module _ {tree : FileTree} (flat : IsFlat tree) where
     homes = first-homes size;
   }
 
-  -- what the holds ask for
+  -- what the holds require
   pub hold-root : slot tree.files 1 ≢ None
   unfolding flat_files free_slots
   hold-root none = absurd (let bad : slot flat_files 1 ≡ None = ap (λ (files : Files). slot files 1) (sym flat.files)
@@ -379,14 +379,14 @@ stacked-is bytes =
     rw (one, size) (ap (λ (memory : Memory).
     let h : SpaceView = record { memory = memory; size = 4096 * length (flat_memory bytes) } in h) memory)
 
--- the space in place 0 changes
+-- the space in slot 0 changes
 abbrev pub changed : Spaces → (SpaceView → SpaceView) → Spaces
 changed s change = with_view s 0 (change (view_at s 0))
 
 abbrev pub with_stack_page : Spaces → Spaces
 with_stack_page s = changed s (λ h. grown h 4096 (stack_marks true))
 
--- it is put there, and one that would not fit
+-- the changed space is put there, or would not fit
 module _ {frames : ℕ} {s : Spaces} {h new : SpaceView} (change : SpaceView → SpaceView) (is : s ≡ alone frames h)
     (to : change h ≡ new) where
   placed : {t : Spaces} → t ≡ changed s change → t ≡ alone frames new
@@ -405,7 +405,7 @@ module _ {frames : ℕ} {s : Spaces} {h new : SpaceView} (change : SpaceView →
     page_frames-more (length new.memory) (length (flat_memory bytes)) less,
   )
 
--- the first place of no spaces is free, and it has the space that stands alone
+-- the first slot of no spaces is free, and has a space where one is alone
 pub first-free : {frames : ℕ} {s : Spaces} → s ≡ no_spaces frames → has_space s 0 ≡ false
 first-free is = ap (λ (s : Spaces). has_space s 0) is
 
@@ -416,7 +416,7 @@ pub flat-size : {frames size : ℕ} {s : Spaces} (bytes : List ℕ) → size ≡
     → s ≡ alone frames (flat_space bytes) → size ≡ 4096 * length (flat_memory bytes)
 flat-size bytes told is = told ∙ ap (λ (s : Spaces). (view_at s 0).size) is
 
--- no spaces over so many frames
+-- no spaces over that many frames
 pub frames-of : {frames : ℕ} {s : Spaces} → s ≡ no_spaces frames → s.frames ≡ frames
 frames-of is = ap (λ (x : Spaces). x.frames) is
 
@@ -464,7 +464,7 @@ module _ (bytes : List ℕ) {frames : ℕ} {s : Spaces} where
       → (0 + i) / 4096 < length (view_at s 0).memory
   fill-inside is i less = rw (is, length-replicate (program_pages bytes) (zero_page all_marks)) (omega (arith, less))
 
--- whether the page of the stack comes behind the guard page
+-- whether there are frames for the page of the stack after the guard page
 pub flat-loaded : (bytes : List ℕ) (old s t : Spaces) → s ≡ alone old.frames (guarded bytes) → (r : Bool)
     → OnTrue r ((taken_frames (with_stack_page s) ≤ s.frames) × (t ≡ with_stack_page s))
     → OnFalse r ((s.frames < taken_frames (with_stack_page s)) × (t ≡ s)) → LoadsFlat bytes old t r
@@ -480,7 +480,7 @@ pub outside : (frames : ℕ) → 64 ≤ frames → frames ≤ 32768 → (frames 
 outside frames least most (inl low) = omega (arith, low, least)
 outside frames least most (inr high) = omega (arith, high, most)
 
--- where the count is in range the fault isn't that
+-- where the count of frames is in range the fault isn't `FrameCount`
 pub counted-flat : {M : Type 0} (frames : ℕ) → 64 ≤ frames → frames ≤ 32768 → (r : Result M BootFault)
     → OnErr r (IsErrOf r NoInit ⊎ IsErrOf r NoMemory) → IsErrOf r FrameCount ↔ ((frames < 64) ⊎ (32768 < frames))
 counted-flat {M} frames least most r only = (

@@ -114,7 +114,7 @@ module _ (first now new : View) (xs ys : List Event) (before mid after : Option 
   )
   stops_in step_rises rises Halted h r k = absurd (k.stopped (up_now first now xs before mid h))
 
--- a run that stopped is answered in the same way whatever events follow
+-- a run that stopped returns the same whatever events follow
 pub stops_before : (old new : View) (ys zs : List Event) (before after : Option (List ℕ)) (rises : Type 0) (halt : Halt)
     → RunGives old new ys before after rises (Err halt) → RunGives old new (ys ++ zs) before after rises (Err halt)
 stops_before old new ys zs before after rises (InitEnded status) k =
@@ -231,14 +231,14 @@ pub so-far-kept : {first now : View} {es : List Event} {before mid after : Optio
     → SoFar first now es before mid → Keeps mid after → SoFar first now es before after
 so-far-kept h keeps = record { began = h.began; done = done-kept h.done keeps }
 
--- a result that is handed on
+-- a result that is passed on
 pub ends_with : (old new : View) (all ys zs : List Event) (before after : Option (List ℕ)) (rises : Type 0)
     (r : Result (Unit {0}) Halt) (given halt : Halt) → all ≡ ys ++ zs → r ≡ Err given → given ≡ halt
     → RunGives old new ys before after rises (Err halt) → RunGives old new all before after rises r
 ends_with old new all ys zs before after rises r given halt whole is same k =
     rw (whole, is, same) (stops_before old new ys zs before after rises halt k)
 
--- a run that is followed by a second is answered as the second
+-- a run that is followed by a second returns what the second does
 pub runs_on : (first now new : View) (xs ys : List Event) (before mid after : Option (List ℕ))
     (step_rises rises : Type 0)
     (r : Result (Unit {0}) Halt) → SoFar first now xs before mid → (step_rises → rises)
@@ -249,7 +249,7 @@ runs_on first now new xs ys before mid after step_rises rises (Ok u) h r k =
 runs_on first now new xs ys before mid after step_rises rises (Err halt) h r k =
     stops_in first now new xs ys before mid after step_rises rises halt h r k
 
--- what a result that is tested is
+-- a result that was tested
 pub ok-of : (r : Result (Unit {0}) Halt) → is_err r ≡ false → r ≡ Ok tt
 ok-of (Ok u) good = refl
 ok-of (Err why) good = absurd (cc)

@@ -1,4 +1,4 @@
--- What an event comes to, from what the kernel makes of it; what a machine leaves, and what is told of its files.
+-- The outcome of an event, from what the kernel does; what a machine leaves, and what it reports of its files.
 use Rattle.machine.proofs.Common.{[], After, ap, Appends-nil, arith, Bool, Console, ConsoleFails, Denotes, Device, drop}
 use Rattle.machine.proofs.Common.{Err, fails, false, FileTree, free_slots, Halt, Halted, IfErr, image_of, InitEnded}
 use Rattle.machine.proofs.Common.{IsDone, IsUp, Kernel, Key, le_refl, length, length-replicate, links_of, List, min}
@@ -137,13 +137,13 @@ module _ (old new : Kernel) (before after : Option (List ℕ)) (goes : old.halte
         )
     steps-give count (Err Halted) flag made leaves = absurd made
 
-    -- no step is answered that the machine had stopped
+    -- no step returns that the machine had stopped
     goes-unhalted : (count : ℕ) (result : Result (Unit {0}) Halt) → PieceGoes old new count before after rising result
         → result ≡ Err Halted → ⊥
     goes-unhalted count (Err Halted) piece is = piece.last
     goes-unhalted count r piece is = cc
 
-    -- where it stops it is at the last of them
+    -- the step at which it stops is the last of them
     pub halts-last : (count : ℕ) (result : Result (Unit {0}) Halt) → PieceGoes old new count before after rising result
         → HaltsLast (told old false) (told new failed) before after count result
     halts-last count (Ok u) piece = tt
@@ -164,7 +164,7 @@ module _ (old new : Kernel) (before after : Option (List ℕ)) (goes : old.halte
     }
     halts-last count (Err Halted) piece = absurd piece.last
 
-    -- what was done in one go
+    -- what was done at once
     pub advance-gives : (most count : ℕ) (result : Result (Unit {0}) Halt) → old.tree.failed ≡ false
         → failed ≡ fails result → PieceGives old new most before after rising count result
         → RunGives (told old false) (told new failed) (replicate count Step) before after rising result
@@ -212,7 +212,7 @@ pub key-halts : (s : State) (b : ℕ) → (next s (Key b)).state.halted ≡ s.ha
 unfolding next
 key-halts s b = refl
 
--- ---- what is left of a machine: nothing names a node but links
+-- ---- what is left of a machine: only links name a node
 
 none-kept : (opens : List (Option OpenFile)) (k : ℕ) → taken (kept (λ j f. false) k opens) ≡ []
 none-kept [] k = refl
@@ -235,7 +235,7 @@ module _ (s : State) where
   unfolding reap without_nodes without_pipes without_opens
   files-left = λ i. kept (λ n node. still n node i) 0 s.files
 
--- the disk has the files of the kernel that nobody held any more
+-- the disk has the files of the kernel once nobody holds any
 pub saved : {D : Type 0} (content : D → List (List ℕ)) (identity : D → List ℕ) (k : Kernel) (tree : FileTree)
     (failed : Bool) (disk : D) → tree ≡ k.tree → failed ≡ false → identity disk ≡ tree.identity
     → Denotes (image_of (content disk)) (unheld tree.files)
@@ -258,12 +258,12 @@ lost-saving k tree failed same sound lost = record {
   rises = rw (← same) lost.rises;
 }
 
--- ---- what is told of the files of the disk is what the abstract Unix shows
+-- ---- what is reported of the files of the disk is what the abstract Unix shows
 
 stat-same : (s : InodeStat) (node : Node) → Tells s node → stat_from s ≡ stat_seen (stat_of node)
 stat-same s node (kind, links, size, major) = rw (kind, links, size) refl
 
--- what is told of any number is what is shown of it
+-- what is reported of any number is what the abstract Unix shows of it
 pub told-shown : (told : Option InodeStat) (o : Option Node) → TellsAny told o
     → option_map stat_from told ≡ option_map stat_seen (option_map stat_of o)
 told-shown None None tells = refl
@@ -271,7 +271,7 @@ told-shown None (Some node) tells = absurd tells
 told-shown (Some s) None tells = absurd tells
 told-shown (Some s) (Some node) tells = ap (λ x. Some x) (stat-same s node tells)
 
--- as many bytes as there are from a place on
+-- as many bytes as there are, from offset `at` on
 pub read-shown : (bytes old new : List ℕ) (at k : ℕ) → k ≡ min (length old) (length bytes - at)
     → new ≡ part at k bytes ++ drop k old → IsRead (take (length old) (drop at bytes)) old new k
 read-shown bytes old new at k count front =

@@ -61,8 +61,8 @@ pub record IsWithoutInit (image : List ℕ) (frames : ℕ) : Type 0 where
   pub accepted : IsAccepted image files
   pub none : start_from image files frames ≡ None
 
--- why a machine doesn't boot from this disk, which has that image; identity, count: what tells a device from others,
--- and its count of failures
+-- why a machine doesn't boot from this disk, which has that image; identity, count: what distinguishes a device from
+-- others, and its count of failures
 abbrev pub IsUnbooted : {D : Type 0} → (D → List ℕ) → (D → ℕ) → D → List ℕ → ℕ → BootFault → Type 0
 IsUnbooted identity count disk image frames (Image fault) = IsOfImage fault × Tells format image fault
     × ((files : Files) → Denotes image files → ⊥)
@@ -71,7 +71,7 @@ IsUnbooted {D} identity count disk image frames Device = (left : D) × Fails ide
 IsUnbooted identity count disk image frames NoMemory = Unit {0}
 IsUnbooted identity count disk image frames NoInit = IsWithoutInit image frames
 
--- what it is where the disk has no files in use
+-- the fault where the disk has no files in use
 abbrev pub boot_fault : ImageFault → BootFault
 boot_fault fault.Device = Device
 boot_fault fault.NoMemory = NoMemory
@@ -120,7 +120,7 @@ FindsInit files frames (Some init) = IsInit files frames init
 abbrev pub view_by : Plan → SpaceView
 view_by new = record { memory = new.memory; size = new.size }
 
--- the plan but for its pages
+-- the plan without its pages
 abbrev pub bare_of : Init → Plan
 bare_of init = record {
   memory = [];
@@ -130,7 +130,7 @@ bare_of init = record {
   sp = init.arguments.sp;
 }
 
--- process 1 with a plan, but for its pages
+-- process 1 with a plan, without its pages
 abbrev pub first_of : Plan → Process
 first_of new = record {
   pid = 1;
@@ -143,7 +143,7 @@ first_of new = record {
   mode = Ready;
 }
 
--- the program stands in the first place
+-- the program is in the first slot
 pub record IsInPlace (files : Files) (frames : ℕ) (new : Spaces) (init : Init) : Type 0 where
   pub plan : Plan
   pub is : init_plan files ≡ Some plan

@@ -32,7 +32,7 @@ flat_memory bytes =
 abbrev pub flat_space : List ℕ → SpaceView
 flat_space bytes = record { memory = flat_memory bytes; size = 4096 * length (flat_memory bytes) }
 
--- the spaces of so many frames, of which place 0 has this one
+-- the spaces of that many frames, of which slot 0 has this one
 abbrev pub alone : ℕ → SpaceView → Spaces
 alone frames space = record {
   places = Some space ∷ replicate 63 None;
@@ -43,7 +43,7 @@ alone frames space = record {
   pipes = replicate 100 None;
 }
 
--- a flat program is loaded into the first place, or the frames don't suffice
+-- a flat program is loaded into the first slot, or the frames don't suffice
 abbrev pub LoadsFlat : List ℕ → Spaces → Spaces → Bool → Type 0
 LoadsFlat bytes old new true = (new ≡ alone old.frames (flat_space bytes))
     × (4 + page_frames (length (flat_memory bytes)) ≤ old.frames)
@@ -53,7 +53,7 @@ LoadsFlat bytes old new false = old.frames < 4 + page_frames (length (flat_memor
 abbrev pub bare_plan : Memory → ℕ → Plan
 bare_plan memory size = record { memory = memory; size = size; pc = 0; argc = 0; sp = size - 16 }
 
--- process 1 over so many bytes, but for their pages
+-- process 1 with a size of that many bytes, without their pages
 abbrev pub first : ℕ → Process
 first size = record {
   pid = 1;

@@ -1,4 +1,4 @@
--- What a step and a run of a machine answer.
+-- What a step and a run of a machine return.
 use Rattle.std.specs.Prelude.{Bool, Err, List, None, Ok, Option, Result, Some, [], false, length, take, true, ℕ, ℤ, ◌<◌}
 use Rattle.std.specs.Prelude.{◌≡◌, ◌≤◌}
 use Rattle.std.specs.Io.KnownBytes.{Appends}
@@ -45,7 +45,7 @@ pub record IsRefused (old new : View) (before after : Option (List ℕ)) : Type 
   pub same : new ≡ old
   pub printed : Appends before after []
 
--- what an event that makes `a` is answered with; rising: the console's count of failures rose
+-- what an event that makes `a` returns; rising: the console's count of failures rose
 abbrev pub StepGives : View → View → After → Option (List ℕ) → Option (List ℕ) → Type 0 → Result (Unit {0}) Halt
     → Type 0
 StepGives old new a before after rising (Ok u) = IsUp old × IsDone old new a before after None
@@ -62,8 +62,8 @@ pub record DeviceFailsIn (old new : View) (events : List Event) (before after : 
   pub goes : (run old.state (take done events)).state.halted ≡ None
   pub fails : DeviceFails old new before after (run old.state (take done events)).bytes
 
--- the console's count of failures rose at the event after so many, a beginning of what all print was printed, and the
--- files are those that the events before it leave
+-- the console's count of failures rose at the event after the first `done`, a beginning of what all print was printed,
+-- and the files are those that the first `done` events leave
 pub record ConsoleFailsIn (old new : View) (events : List Event) (before after : Option (List ℕ)) (rising : Type 0)
     : Type 0 where
   pub rises : rising
@@ -76,7 +76,7 @@ pub record ConsoleFailsIn (old new : View) (events : List Event) (before after :
   pub same_device : new.identity ≡ old.identity
   pub later : old.failures ≤ new.failures
 
--- what a list of events is answered with
+-- what a list of events returns
 abbrev pub RunGives : View → View → List Event → Option (List ℕ) → Option (List ℕ) → Type 0 → Result (Unit {0}) Halt
     → Type 0
 RunGives old new events before after rising (Ok u) = IsUp old × IsDone old new (run old.state events) before after None
@@ -97,12 +97,12 @@ abbrev pub RunGivesTo : {W : Type 0} → (W → Option (List ℕ)) → (W → �
 RunGivesTo contents failures old new from to events result =
     RunGives old new events (contents from) (contents to) (Rises (failures from) (failures to)) result
 
--- the answer where the state halts so
+-- the result where the state halts so
 abbrev pub halt_of : Option ℤ → Result (Unit {0}) Halt
 halt_of None = Ok tt
 halt_of (Some status) = Err (InitEnded status)
 
--- after this answer of the kernel the machine has failed
+-- after this result of the kernel the machine has failed
 abbrev pub fails : Result (Unit {0}) Halt → Bool
 fails (Ok u) = false
 fails (Err (InitEnded status)) = false

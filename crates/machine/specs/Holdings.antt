@@ -1,4 +1,4 @@
--- What a process of the abstract Unix holds, and an open file of it, as a machine tells them.
+-- What a process of the abstract Unix holds, and an open file of it, as a machine reports them.
 use Rattle.std.specs.Prelude.{None, Option, Some, ℕ, ◌==◌, ◌≡◌, false}
 use Rattle.files.specs.declared.file.End.TheVariants as end
 use Rattle.files.specs.declared.file.OpenFile as table
@@ -35,7 +35,7 @@ held_as p = record { descriptors = p.descriptors; directory = p.directory; pendi
 
 -- ---- open files
 
--- what that stands for in the state: a device has no offset
+-- the target in the state: a device has no offset
 abbrev pub target_told : OpenOn → unix.Target
 target_told (on.File number offset) = unix.Target.OnNode number offset
 target_told (on.Console number) = unix.Target.OnNode number 0
@@ -46,7 +46,7 @@ target_told (on.WriteEnd pipe) = unix.Target.OnPipe pipe unix.End.WriteEnd
 abbrev pub file_told : Opened → unix.OpenFile
 file_told o = record { target = target_told o.on; readable = o.readable; writable = o.writable }
 
--- a node is of the kind that is told
+-- a node is of the kind that is reported
 abbrev pub IsFile : Option Node → Type 0
 IsFile (Some (File links bytes)) = Unit {0}
 IsFile (Some (Directory links places)) = Unit {0}
@@ -67,7 +67,7 @@ IsOfKind files (on.Device number) = IsOtherDevice (slot files number)
 IsOfKind files (on.ReadEnd pipe) = Unit {0}
 IsOfKind files (on.WriteEnd pipe) = Unit {0}
 
--- what is told of an open file of the table that so many descriptors name
+-- what is reported of an open file of the table that `descriptors` descriptors name
 abbrev pub on_as : Target → OpenOn
 on_as (target.File number offset) = on.File number offset
 on_as (target.Console number) = on.Console number

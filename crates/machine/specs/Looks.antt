@@ -1,4 +1,4 @@
--- What a machine answers that is asked for the files of its disk.
+-- What a machine returns when it is asked for the files of its disk.
 use Rattle.calls.specs.declared.halt.Halt.{Halt}
 use Rattle.calls.specs.declared.halt.Halt.TheVariants.{Console, Device, Halted, InitEnded}
 use Rattle.inode.specs.declared.InodeStat.{InodeStat}
@@ -9,20 +9,20 @@ use Rattle.unixmodel.specs.Failures.{Rises}
 use Rattle.unixmodel.specs.Shown as shown
 use Rattle.unixmodel.specs.State.{State}
 
--- a node of the abstract Unix, as a machine tells it
+-- a node of the abstract Unix, as a machine reports it
 abbrev pub stat_seen : shown.Stat → Stat
 stat_seen s = record { kind = s.kind; links = s.links; size = s.size }
 
--- the same, from what its inode tells
+-- the same, from the attributes of its inode
 abbrev pub stat_from : InodeStat → Stat
 stat_from s = record { kind = s.kind; links = s.links; size = s.size }
 
--- these bytes, as many as are told, stand at the front of a buffer, and behind them it is as it was
+-- a buffer begins with these bytes, as many as are reported, and is as it was after them
 pub record IsRead (bytes old new : List ℕ) (told : ℕ) : Type 0 where
   pub count : told ≡ length bytes
   pub front : new ≡ bytes ++ drop told old
 
--- so do the bytes of a node from a place on, as many as there are and as fit
+-- a buffer begins with the bytes of a node from offset `at` on, as many as there are and as fit
 abbrev pub ReadsAt : State → ℕ → ℕ → List ℕ → List ℕ → ℕ → Type 0
 ReadsAt s number at old new told = IsRead (shown.shown_bytes s number at (length old)) old new told
 
@@ -44,12 +44,12 @@ pub record IsLost (old new : View) : Type 0 where
   pub later : old.failures ≤ new.failures
   pub rises : Rises old.failures new.failures
 
--- it had failed before, and nothing changed
+-- it had failed earlier, and nothing changed
 pub record HasStopped (old new : View) : Type 0 where
   pub failed : old.failed ≡ true
   pub same : new ≡ old
 
--- what a look at the files is answered with
+-- what a look at the files returns
 abbrev pub LookGives : {X : Type 0} → View → View → (X → Type 0) → Result X Halt → Type 0
 LookGives old new Tells (Ok x) = IsSame old new × Tells x
 LookGives old new Tells (Err Device) = IsLost old new

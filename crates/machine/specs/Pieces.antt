@@ -1,4 +1,4 @@
--- What the first of many steps are answered with, which are done in one go.
+-- What the first of many steps return, which are done at once.
 use Rattle.std.specs.Prelude.{Err, IsErrOf, List, None, Ok, OnOk, Option, Result, replicate, true, ℕ, ⊤, ◌+◌, ◌≡◌, ◌≤◌}
 use Rattle.std.specs.Io.KnownBytes.{Appends}
 use Rattle.calls.specs.declared.halt.Halt.{Halt}
@@ -10,23 +10,22 @@ use Rattle.unixmodel.specs.Calls.{After}
 use Rattle.unixmodel.specs.declared.event.Event.TheVariants.{Step}
 use Rattle.unixmodel.specs.Run.{run}
 
--- at most so many, none where the machine had stopped, or where no process runs and none is ready; and where none is,
--- none does
+-- at most `most` steps; none where the machine had stopped, or where no process runs and none is ready, and only there
 pub record IsPiece (old new : View) (most count : ℕ) (result : Result (Unit {0}) Halt) : Type 0 where
   pub within : count ≤ most
   pub busy : IsBusyFor old.state count
   pub idle : OnOk result (count ≡ 0 → is_idle new.state ≡ true)
   pub none : IsErrOf result Halted → count ≡ 0
 
--- the last of so many steps is the one at which it stops: those before it go on, and this is left of them
+-- the machine stops at the last of `count` steps: those before it go on, and this is left of them
 pub record StopsLast (old : View) (count : ℕ) (Leaves : After → Type 0) : Type 0 where
   pub done : ℕ
   pub last : done + 1 ≡ count
   pub goes : (run old.state (replicate done Step)).state.halted ≡ None
   pub leaves : Leaves (run old.state (replicate done Step))
 
--- where a machine stops it is at the last of so many steps: a device that failed leaves the bytes of those before it, a
--- console their files
+-- where a machine stops, it is at the last of `count` steps: a device that failed leaves the bytes of those before it,
+-- a console their files
 abbrev pub HaltsLast : View → View → Option (List ℕ) → Option (List ℕ) → ℕ → Result (Unit {0}) Halt → Type 0
 HaltsLast old new before after count (Ok u) = ⊤
 HaltsLast old new before after count (Err (InitEnded status)) = StopsLast old count (λ a. ⊤)

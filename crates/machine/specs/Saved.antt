@@ -1,4 +1,4 @@
--- What a machine answers as it is given up.
+-- What a machine returns as it is given up.
 use Rattle.std.specs.Prelude.{Err, List, Ok, Result, false, true, ℕ, ◌≡◌, ◌≤◌}
 use Rattle.calls.specs.declared.halt.Halt.{Halt}
 use Rattle.calls.specs.declared.halt.Halt.TheVariants.{Console, Device, Halted, InitEnded}
@@ -31,8 +31,8 @@ pub record LosesDevice {D : Type 0} (identity : D → List ℕ) (count : D → �
   pub later : t.failures ≤ count disk
   pub rises : Rises t.failures (count disk)
 
--- the disk, or why there is none; content, identity, count: the blocks of a device, what tells it from others, and its
--- count of failures
+-- the disk, or why there is none; content, identity, count: the blocks of a device, what distinguishes it from others,
+-- and its count of failures
 abbrev pub SaveGives : {D : Type 0} → (D → List (List ℕ)) → (D → List ℕ) → (D → ℕ) → View → Result D Halt → Type 0
 SaveGives content identity count m (Ok disk) = IsSaved content identity m disk
 SaveGives content identity count m (Err (InitEnded status)) = ⊥

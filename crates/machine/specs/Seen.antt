@@ -1,4 +1,4 @@
--- A process of the abstract Unix, as a machine tells it.
+-- A process of the abstract Unix, as a machine reports it.
 use Rattle.machine.specs.declared.seen.ProcessState.{ProcessState}
 use Rattle.machine.specs.declared.seen.ProcessState.TheVariants as state
 use Rattle.machine.specs.declared.seen.Seen.{Seen}

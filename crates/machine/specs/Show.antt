@@ -1,4 +1,4 @@
--- What a machine's fields stand for.
+-- What a machine's fields represent.
 use Rattle.std.specs.Prelude.{false, ◌≡◌}
 use Rattle.kernel.specs.Kernel.{state_of}
 use Rattle.machine.specs.declared.machine.Machine.TheInside.{Inside}

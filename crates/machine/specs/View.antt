@@ -3,7 +3,7 @@ use Rattle.std.specs.Prelude.{Bool, List, None, false, ℕ, ◌≡◌}
 use Rattle.unixmodel.specs.State.{State}
 
 -- the state of the abstract Unix, whose files are those of the disk; the device's count of failures; whether the
--- machine has failed; and what tells its device from others
+-- machine has failed; and what distinguishes its device from others
 pub record View : Type 0 where
   pub state : State
   pub failures : ℕ

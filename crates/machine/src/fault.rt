@@ -6,7 +6,7 @@ use thiserror::Error;
 /// Why a machine doesn't boot.
 #[derive(Clone, Copy, PartialEq, Eq, Debug, Error)]
 pub enum BootFault {
-    /// The disk's image is none.
+    /// The disk's image denotes no files.
     #[error("the image: {0}")]
     Image(ImageFault),
     /// Fewer than 64 frames, or more than 32768.

@@ -28,7 +28,7 @@ const FEWEST: u32 = 64;
 /// The most frames that a machine has.
 const MOST: u32 = 32768;
 
-/// The place of process 1.
+/// The slot of process 1.
 const FIRST: usize = 0;
 
 /// The number of the open file that the descriptors of process 1 name.
@@ -62,7 +62,7 @@ const STACK: Perm = Perm {
 };
 
 // Puts a flat program into the first of the address spaces of a machine that has none: its bytes from address 0 on, a
-// guard page, and a page for the stack. It tells whether the frames suffice.
+// guard page, and a page for the stack. Returns whether the frames suffice.
 fn load<T: Translate>(spaces: &mut Spaces<T>, bytes: &[u8]) -> bool
     requires { spaces.old ≡ no_spaces spaces.old.frames }
     ensures { LoadsFlat bytes.now spaces.old spaces.new result }
@@ -82,8 +82,8 @@ fn load<T: Translate>(spaces: &mut Spaces<T>, bytes: &[u8]) -> bool
     spaces.grow(FIRST, page, STACK)
 }
 
-// Process 1 over so many bytes, about to execute its first instruction with no arguments: sp and a1 hold the address of
-// the 0 word on its stack.
+// Process 1 with a size of `size` bytes, about to execute its first instruction with no arguments: sp and a1 hold the
+// address of the 0 word on its stack.
 #[tactic(auto, unfolding(unixmodel::specs::Memory::zeros, unixmodel::specs::Start::flat_descriptors, unixmodel::specs::Files::free_slots))]
 fn first(size: u64) -> Process
     requires { 16 ≤ size }

@@ -1,4 +1,4 @@
-//! What a machine tells of what its processes hold, and of its open files.
+//! What a machine reports of what its processes hold, and of its open files.
 
 ghost use Rattle.std.specs.Prelude.{◌≡◌};
 ghost use Rattle.machine.specs.Holdings.{held_as, opened_as, pending_in};
@@ -7,7 +7,7 @@ use files::{End, OpenFile, Target};
 use proc::Process;
 use unixmodel::process::{Mode, Pending};
 
-/// What a process holds, as it stands between two events.
+/// What a process holds between two events.
 #[derive(Clone, Copy, PartialEq, Eq, Debug)]
 pub struct Holdings {
     /// Each free, or the number of an open file.
@@ -53,7 +53,7 @@ fn pending(mode: Mode) -> Option<Pending>
     }
 }
 
-/// What a process is told to hold.
+/// What is reported of what a process holds.
 pub fn held(process: &Process) -> Holdings
     ensures { result ≡ held_as process.now }
 {
@@ -64,7 +64,7 @@ pub fn held(process: &Process) -> Holdings
     }
 }
 
-/// What an open file is told as that so many descriptors name.
+/// What is reported of an open file that `descriptors` descriptors name.
 pub fn described(file: OpenFile, descriptors: u32) -> Opened
     ensures { result ≡ opened_as file descriptors }
 {

@@ -31,7 +31,7 @@ const FEWEST: u32 = 64;
 /// The most frames that a machine has.
 const MOST: u32 = 32768;
 
-/// The place of process 1.
+/// The slot of process 1.
 const FIRST: usize = 0;
 
 /// The number of the root, in which process 1 works.
@@ -48,7 +48,7 @@ pub(crate) struct Init {
     pub(crate) arguments: Arguments,
 }
 
-// What `/init` has process 1 execute. `None`: it can't be executed, or so many frames don't suffice.
+// What process 1 executes of `/init`. `None`: it can't be executed, or `frames` frames don't suffice.
 fn read_init<D: BlockDev>(tree: &mut Tree<D>, frames: u32) -> Result<Option<Init>, DeviceFault>
     requires up { tree.old.failed ≡ false }
     requires rules { KeepsTree tree.old.files }
@@ -61,7 +61,7 @@ fn read_init<D: BlockDev>(tree: &mut Tree<D>, frames: u32) -> Result<Option<Init
     let Some(program) = read_program(tree, number)? else {
         return Ok(None);
     };
-    // The frame of its registers comes to those of a program that takes the place of another.
+    // Process 1 takes one frame more than a program that replaces another: that of its registers.
     if program.frames() >= u64::from(frames) {
         return Ok(None);
     }
@@ -75,7 +75,7 @@ fn read_init<D: BlockDev>(tree: &mut Tree<D>, frames: u32) -> Result<Option<Init
     }))
 }
 
-// Puts `/init` in the first place, where there is no process yet. `None`: it can't be executed, or the frames don't
+// Puts `/init` in the first slot, where there is no process yet. `None`: it can't be executed, or the frames don't
 // suffice.
 fn put_init<D: BlockDev, T: Translate>(
     tree: &mut Tree<D>,
@@ -162,7 +162,7 @@ fn boot_on<D: BlockDev, T: Translate>(
         }
         Ok(None) => Err(BootFault::NoInit),
         Err(_) => {
-            // Its count tells of the failure.
+            // The device's count reports the failure.
             let _device = tree.device();
             Err(BootFault::Device)
         }

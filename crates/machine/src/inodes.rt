@@ -1,4 +1,4 @@
-//! What a machine tells of the files of its disk.
+//! What a machine reports of the files of its disk.
 ghost use Rattle.std.specs.Prelude.{◌≡◌, false, option_map};
 ghost use Rattle.kernel.specs.Disk.{ReadsDisk};
 ghost use Rattle.kernel.specs.Kernel.{state_of};
@@ -10,7 +10,7 @@ use calls::Kernel;
 use inode::InodeStat;
 use sv39::Translate;
 
-/// A node of the disk, as its inode tells it.
+/// A node of the disk, as its inode describes it.
 #[derive(Clone, Copy, PartialEq, Eq, Debug)]
 pub struct Stat {
     /// 1 directory, 2 file, 3 device.
@@ -21,7 +21,7 @@ pub struct Stat {
     pub size: u32,
 }
 
-// What is told of it, without the major number of a device.
+// What is reported of it: all except the major number of a device.
 fn told(seen: Option<InodeStat>) -> Option<Stat>
     ensures { result ≡ option_map stat_from seen }
 {
@@ -35,7 +35,7 @@ fn told(seen: Option<InodeStat>) -> Option<Stat>
     }
 }
 
-/// What is told of the node with a number; `None` where there is none.
+/// What is reported of the node with a number; `None` where there is none.
 pub fn look<D: BlockDev, T: Translate>(
     kernel: &mut Kernel<D, T>,
     number: usize,
@@ -48,7 +48,7 @@ pub fn look<D: BlockDev, T: Translate>(
     Ok(told(seen))
 }
 
-/// Reads bytes of the node with a number from the place `at` on, as many as there are, and tells how many.
+/// Reads bytes of the node with a number from offset `at` on, as many as there are, and returns how many.
 pub fn read<D: BlockDev, T: Translate>(
     kernel: &mut Kernel<D, T>,
     number: usize,

@@ -1,4 +1,4 @@
-//! The machine: events in, the console's bytes and the state of the process out.
+//! The machine: events in, the console's bytes and the state of the processes out.
 ghost use Rattle.std.specs.Prelude.{◌≡◌, ◌≤◌, ◌+◌, ℕ, None, Some, false, OnOk, OnErr, IfSome, IfOk, IsErrOf, is_some};
 ghost use Rattle.std.specs.Prelude.{option_map, slice_index};
 ghost use Rattle.unixmodel.specs.Next.{next};
@@ -79,8 +79,8 @@ impl<D: BlockDev, T: Translate> Machine<D, T> {
         self.failed || self.kernel.halted().is_some()
     }
 
-    /// One event. An error says why the machine stops; after `Device` and `Console` it is of no more use, and every
-    /// later call answers `Halted`.
+    /// Handles one event. An error says why the machine stops; after `Device` and `Console` it is of no more use, and
+    /// every later call returns `Halted`.
     pub fn step<W: Out>(&mut self, event: Event, console: &mut W) -> Result<(), Halt>
         ensures gives { StepGivesTo W.contents W.failures self.old self.new console.old console.new
             (next self.old.state event) result }
@@ -107,7 +107,7 @@ impl<D: BlockDev, T: Translate> Machine<D, T> {
         }
     }
 
-    /// The events of a list up to the first at which the machine stops.
+    /// Handles the events of a list up to the first at which the machine stops.
     pub fn run<W: Out>(&mut self, events: &[Event], console: &mut W) -> Result<(), Halt>
         ensures gives { RunGivesTo W.contents W.failures self.old self.new console.old console.new events.now result }
         ensures later { W.failures console.old ≤ W.failures console.new }
@@ -121,8 +121,8 @@ impl<D: BlockDev, T: Translate> Machine<D, T> {
         Ok(())
     }
 
-    /// What is told of the node of the disk with this number; `None` where there is none. `Device`: an access of the
-    /// device failed, as at a step.
+    /// What is reported of the node of the disk with this number; `None` where there is none. `Device`: an access of
+    /// the device failed, as at a step.
     pub fn stat_inode(&mut self, number: usize) -> Result<Option<Stat>, Halt>
         ensures { LookGives self.old self.new (λ stat. stat ≡ option_map stat_seen (shown_stat self.old.state number))
             result }
@@ -135,9 +135,9 @@ impl<D: BlockDev, T: Translate> Machine<D, T> {
         Ok(told?)
     }
 
-    /// Reads bytes of the node of the disk with this number into `out`, from the place `at` on and as many as there
-    /// are, and tells how many: none past its end, none of a device, and none where there is no such node. `Device`: an
-    /// access of the device failed, as at a step; nothing is said of `out` then.
+    /// Reads bytes of the node of the disk with this number into `out`, from offset `at` on and as many as there
+    /// are, and returns how many: none past its end, none of a device, and none where there is no such node. `Device`:
+    /// an access of the device failed, as at a step; nothing is said of `out` then.
     pub fn read_inode(&mut self, number: usize, at: usize, out: &mut [u8]) -> Result<usize, Halt>
         ensures gives { LookGives self.old self.new (ReadsAt self.old.state number at out.old out.new) result }
         ensures kept { IsErrOf result Halted → out.new ≡ out.old }
@@ -150,7 +150,7 @@ impl<D: BlockDev, T: Translate> Machine<D, T> {
         Ok(count?)
     }
 
-    /// The device of the disk, which counts its failures: where it can't fail, no call answers `Device`.
+    /// The device of the disk, which counts its failures: where it can't fail, no call returns `Device`.
     pub fn device(&self) -> &D
         ensures failures { D.failures result.now ≡ self.now.failures }
         ensures identity { D.identity result.now ≡ self.now.identity }
@@ -158,7 +158,7 @@ impl<D: BlockDev, T: Translate> Machine<D, T> {
         self.kernel.device()
     }
 
-    /// What is told of the process with a pid; `None` where there is none.
+    /// What is reported of the process with a pid; `None` where there is none.
     pub fn inspect(&self, pid: u32) -> Option<Seen>
         ensures { result ≡ option_map seen_of (shown_process self.now.state pid) }
     {
@@ -181,8 +181,8 @@ impl<D: BlockDev, T: Translate> Machine<D, T> {
     }
 
     /// The memory, and the frame of the root of a process's page table; `None` where there is no such process. A walk
-    /// from that root reaches the bytes that `peek` tells of a page where its marks allow the access, and faults
-    /// elsewhere. At a page that a fork had since it came a store may fault, too.
+    /// from that root reaches the bytes that `peek` returns of a page where its marks allow the access, and faults
+    /// elsewhere. At a page that a fork had since it was made a store may fault, too.
     pub fn tables(&self, pid: u32) -> Option<(&Ram, FrameNo)>
         ensures some { is_some result ≡ is_some (shown_process self.now.state pid) }
         ensures shows { IfSome result

@@ -8,7 +8,7 @@ use spaces::Spaces;
 use std::alloc::Global;
 use sv39::Translate;
 
-/// No spaces over a memory of so many frames.
+/// No spaces over a memory of `frames` frames.
 pub fn empty<T: Translate>(alloc: Global, translator: T, frames: u32) -> Result<Spaces<T>, NoMemory>
     requires { frames ≤ 32768 }
     ensures { IfOk result (λ s. s ≡ no_spaces frames) }

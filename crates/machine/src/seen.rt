@@ -1,4 +1,4 @@
-//! What a machine tells of its processes.
+//! What a machine reports of its processes.
 
 ghost use Rattle.std.specs.Prelude.{◌≡◌, Some};
 ghost use Rattle.machine.specs.Seen.{number_of, state_seen, told_as};
@@ -8,7 +8,7 @@ use proc::Process;
 use unixmodel::call::Call;
 use unixmodel::process::Mode;
 
-/// A process, as it stands between two events.
+/// A process between two events.
 #[derive(Clone, Copy, PartialEq, Eq, Debug)]
 pub struct Seen {
     pub pid: u32,
@@ -32,7 +32,7 @@ pub enum ProcessState {
     Ready,
     /// In the call with this number.
     Waiting(u32),
-    /// Ended with this status, and not waited for.
+    /// Ended with this status, and not collected.
     Zombie(i32),
 }
 
@@ -66,7 +66,7 @@ fn number(call: Call) -> u32
     }
 }
 
-// What a mode is told as.
+// What is reported of a mode.
 fn state(mode: Mode) -> ProcessState
     ensures { result ≡ state_seen mode }
 {
@@ -78,7 +78,7 @@ fn state(mode: Mode) -> ProcessState
     }
 }
 
-/// What a process of so many bytes is told as.
+/// What is reported of a process with a size of `size` bytes.
 pub fn told(process: &Process, size: u64) -> Seen
     ensures { result ≡ told_as process.now size }
 {

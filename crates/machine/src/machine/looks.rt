@@ -1,5 +1,5 @@
-//! What a machine tells of what its processes hold: their descriptors, the open files and the pipes; and a number that
-//! stands for all of its state.
+//! What a machine reports of what its processes hold: their descriptors, the open files and the pipes; and a number
+//! that stands for all of its state.
 ghost use Rattle.std.specs.Prelude.{◌≡◌, ◌++◌, IfSome, false, is_some, option_map};
 ghost use Rattle.digests.specs.Digest.{digest_of};
 ghost use Rattle.kernel.specs.Shows.{descriptors_on};
@@ -17,7 +17,7 @@ use calls::Halt;
 use sv39::Translate;
 
 impl<D: BlockDev, T: Translate> Machine<D, T> {
-    /// The least pid above another, among those of which `inspect` tells; `None` where there is none. From 0 on these
+    /// The least pid above another, among those that `inspect` knows; `None` where there is none. From 0 on these
     /// are all processes, in the order of their pids.
     pub fn next_pid(&self, after: u32) -> Option<u32>
         ensures { IsNextOf (λ pid. is_some (shown_process self.now.state pid)) after result }
@@ -34,7 +34,7 @@ impl<D: BlockDev, T: Translate> Machine<D, T> {
     }
 
     /// The open file with a number, which descriptors name; `None` where there is none. Once the machine has failed a
-    /// node may be told as one of another kind.
+    /// node may be reported as one of another kind.
     pub fn opened(&self, file: usize) -> Option<Opened>
         ensures file { option_map file_told result ≡ slot self.now.state.opens file }
         ensures count { IfSome result (λ o. o.descriptors ≡ descriptors_on self.now.state file) }
@@ -44,7 +44,7 @@ impl<D: BlockDev, T: Translate> Machine<D, T> {
         Some(described(file, descriptors))
     }
 
-    /// The bytes of the pipe with a number, the oldest first: those of the second slice stand behind those of the
+    /// The bytes of the pipe with a number, the oldest first: those of the second slice follow those of the
     /// first. `None` where there is no such pipe.
     pub fn pipe(&self, number: usize) -> Option<(&[u8], &[u8])>
         ensures { option_map (λ r. r.0.now ++ r.1.now) result ≡ slot self.now.state.pipes number }
@@ -53,9 +53,10 @@ impl<D: BlockDev, T: Translate> Machine<D, T> {
     }
 
     /// A number that is made of the whole state and of nothing else: machines of equal states have equal digests,
-    /// whatever their translators hold and wherever their pages and blocks lie. Other states have another digest but by
-    /// chance, of one in 2^64 where nobody looks for such states; minor numbers of devices, whether a fork had a page,
-    /// and how many frames and blocks there are, don't go in. `Device`: an access of the device failed, as at a step.
+    /// whatever their translators hold and wherever their pages and blocks lie. Other states have another digest,
+    /// except by chance, of one in 2^64 where nobody looks for such states; minor numbers of devices, whether a fork
+    /// had a page, and how many frames and blocks there are, don't go in. `Device`: an access of the device failed, as
+    /// at a step.
     pub fn digest(&mut self) -> Result<u64, Halt>
         ensures { LookGives self.old self.new (λ digest. digest ≡ digest_of self.old.state) result }
     {

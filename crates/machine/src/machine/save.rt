@@ -24,7 +24,7 @@ fn give_up<D: BlockDev>(tree: Tree<D>) -> Result<D, DeviceFault>
 {
     let mut tree = tree;
     let released = tree.release_all();
-    // Its count tells of a failure.
+    // The device's count reports a failure.
     let _device = tree.device();
     released?;
     let (disk, flushed) = unmount(tree);
@@ -35,7 +35,7 @@ fn give_up<D: BlockDev>(tree: Tree<D>) -> Result<D, DeviceFault>
 impl<D: BlockDev, T: Translate> Machine<D, T> {
     ghost use Rattle.machine.specs.Saved.{SaveGives};
 
-    /// Gives up all processes and hands back the disk, whose bytes denote the files that are left: what nothing names
+    /// Gives up all processes and returns the disk, whose bytes denote the files that are left: what nothing names
     /// any more is gone with its blocks. It works after `InitEnded`, too.
     ///
     /// `Device` where an access of the device failed, and `Halted` after `Device` and `Console`.

@@ -13,8 +13,8 @@ use console::Out;
 use sv39::Translate;
 
 impl<D: BlockDev, T: Translate> Machine<D, T> {
-    /// So many steps, up to the first at which the machine stops: what `run` does with so many `Event::Step`, in less
-    /// time.
+    /// Does `count` steps, up to the first at which the machine stops: what `run` does with `count` times
+    /// `Event::Step`, in less time.
     pub fn steps<W: Out>(&mut self, count: u32, console: &mut W) -> Result<(), Halt>
         ensures gives { RunGivesTo W.contents W.failures self.old self.new console.old console.new
             (replicate count Step) result }
@@ -28,9 +28,9 @@ impl<D: BlockDev, T: Translate> Machine<D, T> {
         done
     }
 
-    /// The first of so many steps, as many as are done in one go: instructions up to a call or a fault, or a turn.
-    /// Tells how many they were, with the one at which the machine stops. They are none where no process runs and none
-    /// is ready, and where the machine had stopped.
+    /// Does the first of `most` steps, as many as are done at once: instructions up to a call or a fault, or a turn.
+    /// Returns how many they were, with the one at which the machine stops. They are none where no process runs and
+    /// none is ready, and where the machine had stopped.
     pub fn advance<W: Out>(&mut self, most: u32, console: &mut W) -> (u32, Result<(), Halt>)
         requires { 0 < most }
         ensures gives { RunGivesTo W.contents W.failures self.old self.new console.old console.new
@@ -47,9 +47,9 @@ impl<D: BlockDev, T: Translate> Machine<D, T> {
         (count, done)
     }
 
-    /// Instructions of the process that runs, at most so many: up to a call or a fault, which isn't done, and no
-    /// further than to the first of some addresses that the pc comes to after the first of them. Tells how many they
-    /// were: none where no process runs, and where the machine has stopped. An address costs nothing an instruction.
+    /// Does at most `most` instructions of the process that runs: up to a call or a fault, which isn't done, and no
+    /// further than to the first of some addresses that the pc comes to after the first of them. Returns how many they
+    /// were: none where no process runs, and where the machine has stopped. An address costs nothing per instruction.
     pub fn compute(&mut self, most: u32, stops: &[u64]) -> u32
         ensures computes { IsUp self.old → Computes self.old.state self.new.state stops.now most result }
         ensures stopped { ¬ IsUp self.old → (result ≡ 0) × (self.new ≡ self.old) }
