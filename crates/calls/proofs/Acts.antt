@@ -1,4 +1,4 @@
--- Calls of the running process that are answered at once.
+-- Calls of the running process that return at once.
 use Rattle.calls.proofs.Common.{[], Acts, ActsOnDisk, After, answer-here, answered, answered-here, Answers, ap, Appends}
 use Rattle.calls.proofs.Common.{Appends-nil, argument, arith, blocked, Blocks, Bool, Call, call, call_of, called}
 use Rattle.calls.proofs.Common.{called_by, Came, can_write, CanWait, cast_signed, cast_unsigned, change_process, Comes}
@@ -21,13 +21,13 @@ use Rattle.std.specs.Int.{w32}
 use Rattle.calls.specs.declared.halt.Halt.TheVariants.{Device}
 use Rattle.unixmodel.specs.Process as unix
 
--- ---- what becomes of the files of the disk
+-- ---- the files of the disk
 
--- they are as before
+-- they are as they were
 pub same-served : {old new : FileTree} → new ≡ old → old.failed ≡ false → IsServed old new
 same-served same up = rw same (record { up = up; same_device = refl; later = omega arith })
 
--- what is lost behind a part that served
+-- what is lost after a part that served
 pub lost-after : {a b c : FileTree} → IsServed a b → IsLost b c → IsLost a c
 lost-after first lost = record {
   down = lost.down;
@@ -54,7 +54,7 @@ pub err-lost : (k new : Kernel) (i : ℕ) (call : Call) (r : Result Came DeviceF
 err-lost k new i call (Ok came) e lost = absurd (cc)
 err-lost k new i call (Err fault) e lost = lost
 
--- what is made is made of another state
+-- equal old states make the same
 pub on-after : {A T : Type 0} (x y z : A) (r : Result T DeviceFault) → x ≡ y → OnOk r (y ≡ z) → OnOk r (x ≡ z)
 on-after x y z (Ok t) same made = same ∙ made
 on-after x y z (Err fault) same made = tt
@@ -142,7 +142,7 @@ module _ {k : Kernel} {i : ℕ} (runs : Runs k i) where
       ∙ ap (λ n. state_of (ended k i n)) same
       ∙ sym (ends-at k i x.process x.held x.run x.sound runs.zero runs.aligned status x.up)
 
--- the call has the number that a7 tells
+-- the call has the number in a7
 pub numbers : (k : Kernel) {a n : ℕ} {call : Option Call} → a ≡ argument k 7 → n ≡ low a → call ≡ call_of n
     → call_of (low (slice_index k.spaces.registers 17)) ≡ call
 numbers k a n call = sym (call ∙ ap call_of (n ∙ ap low a))
@@ -159,7 +159,7 @@ module _ {k e : Kernel} {i : ℕ} {call : Option Call} (begun : IsBegun k e i)
         ∙ ap (λ (s : State). let a : After = record { state = s; bytes = bytes } in a) (sym done))
         (record { state = refl; printed = printed })
 
-    -- with what that leaves of the files of the disk
+    -- and what that leaves of the files of the disk
     pub fails-of : (rising : Type 0) (halt : Halt)
         → Tries e new i (outcome_at (state_of e) i call) before after rising (Err halt)
         → Dispatches {X = Unit {0}} new (called (state_of k) i) before after rising (Err halt)
@@ -179,12 +179,12 @@ pub provided-refused : (b : Bool) (rest : Outcome) → limited rest ≡ Refused 
 provided-refused true rest is = is
 provided-refused false rest is = refl
 
--- ---- what an outcome comes to
+-- ---- what an outcome makes of the state
 
 abbrev pub after : State → List ℕ → After
 after state bytes = record { state = state; bytes = bytes }
 
--- it is done: it is answered, and what nothing names any more goes
+-- it is done: it returns, and what nothing names any more goes
 pub settle-reaped : (begun new : State) (i value : ℕ) (bytes : List ℕ) {full last : State} {p : unix.Process}
     → change_process new i (with_answer value) ≡ full → process_at full i ≡ Some p → p.killed ≡ false
     → reap full ≡ last → settle begun i (Done new value bytes) ≡ after last bytes
@@ -204,7 +204,7 @@ module _ {k : Kernel} {i : ℕ} (x : Here k i) (begun : State) (value : ℕ) (by
       ≡ after (state_of (answered k value)) bytes
   settle-limited = rw (within-state k x.sound x.up) settle-done
 
--- a call that puts out nothing may come to anything
+-- a call that prints nothing may end in any way
 quietly : (c : Came) → MayPrint c []
 quietly (Answers value) = tt
 quietly _ = refl
@@ -234,7 +234,7 @@ module _ {k new : Kernel} {i : ℕ} {o : Outcome} where
     served = served;
   }
 
--- an int is what its bits are read as
+-- an int is the signed reading of its bits
 pub int-bits : (n : ℕ) → cast_signed w32 (cast_unsigned w32 (int_of n)) ≡ int_of n
 int-bits n = ap (cast_signed w32) (of_z-to_z w32 (low n) (omega arith))
 
@@ -272,7 +272,7 @@ module _ {k : Kernel} {i : ℕ} (x : Here k i) where
   unnamed rest call same is none =
       refused (Some call) (ap limited (same ∙ ap (λ o. given o rest) (descriptor-is is none)))
 
-  -- what the row makes once it is settled
+  -- what the row makes, once it is settled
   pub settles : {new : Kernel} (call : Call) (answer : ℕ) → Here new i → IsServed k.tree new.tree
       → settle (state_of k) i (outcome_of (state_of k) i (me x) (Some call)) ≡ quiet (state_of (answered new answer))
       → Acts k new i (Some call) (Answers answer)
@@ -393,7 +393,7 @@ module _ {k : Kernel} {i : ℕ} (x : Here k i) where
   pub sleeps : {c : Came} → GoesOn k k i (pending_for k Sleep) c → Acts k k i (Some Sleep) c
   sleeps goes = begins-on (pending_for k Sleep) Sleep refl goes
 
--- a call of no number
+-- a call with an unknown number
 pub unbuilt : {k : Kernel} {i : ℕ} {call : Option Call} → (other : Option Call) → Runs k i → call ≡ other
     → ((p : unix.Process) → outcome_of (state_of k) i p other ≡ Refused) → (at : Option (List ℕ))
     → (bytes : List ℕ) × Comes k k i (outcome_at (state_of k) i call) bytes Refuses × Appends at at bytes

@@ -1,4 +1,4 @@
--- The names that the lemmas of this crate import from elsewhere, passed on from one place. Declares nothing.
+-- The names from elsewhere that the lemmas of this crate import, in one file. Declares nothing.
 pub use Rattle.std.proofs.Common.{◌%◌, ◌&&◌, ◌*◌, ◌+◌, ◌++◌, ◌-◌, ◌/◌, ◌<◌, [], ◌^◌, ap, arith, Bool, drop, eq-eqb, Err}
 pub use Rattle.std.proofs.Common.{false, IfSome, inl, inr, is_none, is_some, le_trans, length, List, map, min, nat_eq}
 pub use Rattle.std.proofs.Common.{nat_le, nat_lt, negsuc, None, Ok, Option, option_map, pos, refl, Result, rules, Some}

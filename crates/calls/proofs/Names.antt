@@ -196,7 +196,7 @@ is-device _ is = absurd (false≢true is)
 
 -- ---- the kernel with other files
 
--- what a call on names does where the tree answered r
+-- what a call on names does where the tree returned r
 abbrev pub ActsNamed : {T : Type 0} → Kernel → Kernel → ℕ → Call → Result T TreeFault → Type 0
 ActsNamed k new i call r = (came : Result Came DeviceFault) → IsNamed r came → ActsOnDisk k new i (Some call) came
 
@@ -281,7 +281,7 @@ module _ {k : Kernel} {i : ℕ} (x : Here k i) where
         (rw (home-is x) (link-row (state_of k) i (me x) path to (path-is x 0 is) (path-is x 1 second)))
         (λ v made. made) (λ over. over)
 
--- ---- unlink: a name less, and its node is given up where nothing keeps it any more
+-- ---- unlink: one name less, and its node is given up where nothing keeps it any more
 
 -- ---- the row
 
@@ -295,7 +295,7 @@ unfolding unlink_row
 unlink-row s i p path at =
     rw at (given-then (spot_of s.files p.directory path) (unlinked s.files) (λ files. answers (with_files s files) 0))
 
--- where the tree takes no name away the row doesn't
+-- where the tree removes no name the row doesn't
 nameless-none : (holds : List ℕ) (files : Files) (d : ℕ) (path : List ℕ) → unlinked_in holds files d path ≡ None
     → nameless files d path ≡ None
 unfolding unlinked_in
@@ -312,9 +312,9 @@ nameless-none holds files d path none = go (spot_of files d path) none where
   go None h = refl
   go (Some at) h = taken at h (unlinked files at) refl
 
--- ---- what stays of files with a name less
+-- ---- what stays of files with one name less
 
--- they take as many blocks, and have no node more
+-- they take as many blocks, and have no more nodes
 record IsLess (files less : Files) : Type 0 where
   pub blocks : blocks_of less ≡ blocks_of files
   pub none : (m : ℕ) → slot files m ≡ None → slot less m ≡ None
@@ -368,7 +368,7 @@ unfolding frames_of
 within-files s files same =
     ap (λ n. nat_le (frames_of s) s.frame_limit && nat_le n s.block_limit && nat_le (opens_of s) open_limit) same
 
--- ---- the kernel with a name less
+-- ---- the kernel with one name less
 
 module _ {k : Kernel} {i : ℕ} (x : Here k i) (d : ℕ) (path : List ℕ) {to : Kernel} (rest : to ≡ with_tree k to.tree)
     (sound : IsKernel to) (made : unlinked_in k.tree.holds k.tree.files d path ≡ Some to.tree.files)

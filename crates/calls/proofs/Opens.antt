@@ -1,4 +1,4 @@
--- open, chdir and exec: a node is opened, comes to be the directory of the running process, or gives its program.
+-- open, chdir and exec: a node is opened, becomes the directory of the running process, or gives its program.
 use Rattle.calls.proofs.Common.{[], Acts, ActsOnDisk, and_parts, answered, answered-here, Answers, answers, ap, args_at}
 use Rattle.calls.proofs.Common.{argument, arith, blocks_of, Bool, Came, change_node, Chdir, chdir_row, count_by}
 use Rattle.calls.proofs.Common.{descriptors_in, DeviceFault, Directory, directory_at, Done, enter-parts, Err, Exec}
@@ -111,7 +111,7 @@ openable-cut files n f told is = go (truncates f) where
   }
   go false = is
 
--- ---- a descriptor and a place
+-- ---- a descriptor and a slot
 
 some-place : {X : Type 0} (xs : List (Option X)) (n : ℕ) → free_slot xs ≡ Some n → nat_lt 0 (count_by is_none xs) ≡ true
 some-place xs n at = elim (cases_eq (count_by is_none xs) 0) [
@@ -119,7 +119,7 @@ some-place xs n at = elim (cases_eq (count_by is_none xs) 0) [
   | inr some ↦ lt-ltb 0 (count_by is_none xs) (omega (arith, some))
 ]
 
--- ---- the kernel with one open file more
+-- ---- the kernel with one more open file
 
 module _ {k : Kernel} {i : ℕ} (runs : Runs k i) {n f : ℕ} {told : InodeStat} (is : IsOpenable k.tree.files n f told)
   where
@@ -203,7 +203,7 @@ truncated-new f got here = go (truncates f) where
 
 -- ---- the row
 
--- what open comes to where it may open the node that it got
+-- what open does where it may open the node that it got
 abbrev opens_seat : State → ℕ → unix.Process → ℕ → Made → Outcome
 opens_seat s i p f got =
     given (free_slot p.descriptors) λ fd.
@@ -222,7 +222,7 @@ module _ {k : Kernel} {i : ℕ} (x : Here k i) where
   open-row {path} f o asks = let at = path-is x 0 asks.named in let found =
       found-here x path asks.found in rw (asks.flags, at, found) refl
 
-  -- no descriptor or no place is free
+  -- no descriptor or no slot is free
   full : has_seat k i ≡ false → (f : ℕ) (made : Option Made)
       → limited (given made (opens_got (state_of k) i (me x) f)) ≡ Refused
   full none f made =
@@ -394,7 +394,7 @@ module _ {k : Kernel} {i : ℕ} (x : Here k i) where
               (sym (truncated-new f new_node new-there))
               (new-row ∙ ap (λ o. given o (opens_got (state_of k) i (me x) f)) made) new-there refl opens
 
--- what is asked for once the path was looked up
+-- what is requested, once the path was looked up
 pub asks-of : {k e : Kernel} {i f : ℕ} {path : List ℕ} {o q : Option ℕ} → Some path ≡ path_argument k i 0
     → f ≡ low (argument k 1) → HasRead k e × (o ≡ find k.tree.files (directory_at k i) path) → o ≡ q → Asks e i path f q
 asks-of {i = i} {f = f} {path = path} {q = q} named flags reads is =
@@ -424,7 +424,7 @@ module _ {k : Kernel} {i n : ℕ} (x : Here k i) (r : Reaches k i n) where
   chdir-made is = let at = path-is x 0 r.named in let found = found-here x r.path r.found in let there =
       chdir-there.1 in rw (at, found, there, is) refl
 
-  -- told of it
+  -- from its attributes
   module _ {e : Kernel} (told : InodeStat)
       (reads : HasRead k e × ((node : Node) → slot k.tree.files n ≡ Some node → Tells told node)) where
     tells : Tells told chdir-there.0
@@ -452,7 +452,7 @@ module _ {k : Kernel} {i n : ℕ} (x : Here k i) (r : Reaches k i n) where
       (ap (λ (o : Outcome). settle (state_of k) i (limited o)) made
       ∙ settles-gone x x.process.descriptors n refl reaped)
 
--- ---- exec: another program comes in the place of the one that runs
+-- ---- exec: another program replaces the one that runs
 
 given-plan : (o : Option (List ℕ)) (args : Option (List (List ℕ))) (rest : Plan → Outcome)
     → given o (λ file. given args (λ a. given (plan file a) rest))
@@ -461,7 +461,7 @@ given-plan None args rest = refl
 given-plan (Some file) None rest = refl
 given-plan (Some file) (Some a) rest = refl
 
--- it comes in the place of process p
+-- it replaces the program of process p
 abbrev replaces : State → ℕ → unix.Process → Plan → Outcome
 replaces s i p new = provided (fits_beside s new) (answers (put_process s i (replaced p new)) new.argc)
 
@@ -492,7 +492,7 @@ module _ {k : Kernel} {i n : ℕ} (x : Here k i) (r : Reaches k i n) where
       let none : fits_beside (state_of k) p ≡ false = fits-is p ∙ lt-leb _ _ (over p is) in
       ap (λ b. limited (provided b (answers (put_process (state_of k) i (replaced (me x) p)) p.argc))) none))
 
-  -- its program comes in the place of the old one
+  -- its program replaces the old one
   pub exec-done : {new : Kernel} {started : Started} → HasReplaced k new i n (argument k 1) started → IsKernel new
       → Acts k new i (Some Exec) (Answers started.count)
   exec-done {new} h sound =

@@ -131,7 +131,7 @@ went-quiet at served is goes = record {
 }
 
 module _ {k : Kernel} (at : Option (List ℕ)) (goes : k.halted ≡ None) (up : k.tree.failed ≡ false) where
-  -- none goes by itself
+  -- no step
   pub went-still : {new : Kernel} → state_of new ≡ state_of k → new.tree ≡ k.tree → Went k new 0 at at
   unfolding run
   went-still {new} same tree =
@@ -173,7 +173,7 @@ module _ {old mid : Kernel} {n : ℕ} {before at : Option (List ℕ)} (went : We
           served = served-after went.served second.served;
         }
 
-    -- one step more
+    -- one more step
     next-steps : stepped old (n + 1) ≡ after_bytes (stepped old n).bytes (next (state_of mid) Step)
     next-steps =
         steps-go (state_of old) up n 1 went.makes.halts
@@ -230,7 +230,7 @@ module _ {old mid : Kernel} {n : ℕ} {before at : Option (List ℕ)} (went : We
         )
     stops-give new after step_rises rises Halted count more r gives leaves = absurd gives
 
--- behind steps that went
+-- after steps that went on
 pub stops-rest : {old now new : Kernel} {n : ℕ} (m count : ℕ) {before mid after : Option (List ℕ)}
     {step_rises rises : Type 0} {halt : Halt} → Went old now n before mid → old.halted ≡ None → n + m ≤ count
     → (step_rises → rises)
@@ -244,7 +244,7 @@ stops-rest {new = new} m count {after = after} {step_rises} {rises} {halt} went 
 
 -- ---- instructions
 
--- where there are no stops, all are done
+-- without stops, all are done
 pub ends-all : (count done pc : ℕ) → EndsAt [] count done pc → done ≡ count
 ends-all count done pc (inl all) = all
 ends-all count done pc (inr at) = absurd (let never = at.1 in cc)
@@ -275,7 +275,7 @@ module _ {k : Kernel} {i : ℕ} (is : IsKernel k) (active : k.spaces.active ≡ 
       ∙ step-computes (runner-of on.sound on.active) last.2.means
       ∙ ap (λ (s : Spaces). quiet (state_of (record k { spaces = s }))) (sym last.2.leaves)
 
-  -- a process runs before each of them, and behind the last
+  -- a process runs before each of them, and after the last
   busy-at : (stops : List ℕ) (n : ℕ) (new : Spaces) → Advances stops n k.spaces i new → IsBusy (stepped k n).state
   busy-at stops n new all =
       let on = advances-on stops n k i new is active all in
@@ -333,7 +333,7 @@ module _ {k : Kernel} (is : IsKernel k) (none : k.spaces.active ≡ None) where
 
 -- ---- how a piece ends
 
--- a step behind those that went, which makes b, is the last of the piece
+-- a step after those that went on, which makes b, is the last of the piece
 pub last-goes : {k mid : Kernel} {n : ℕ} {before : Option (List ℕ)} (new : Kernel) (after : Option (List ℕ))
     (rising : Type 0) {b : After} (r : Result (Unit {0}) Halt) → Went k mid n before before → k.halted ≡ None
     → next (state_of mid) Step ≡ b

@@ -1,4 +1,4 @@
--- pipe, dup and close: descriptors come and go.
+-- pipe, dup and close: calls that make and close descriptors.
 use Rattle.calls.proofs.Common.{[], Acts, answered, answered-here, Answers, ap, argument, arith, can_write, changed}
 use Rattle.calls.proofs.Common.{clear, Close, close_row, count_by, Counted, counting, descriptors-run, descriptors_at}
 use Rattle.calls.proofs.Common.{descriptors_in, Done, Dup, dup-state, dup_row, false, free-here, free-None, free-opens}
@@ -20,9 +20,9 @@ use Rattle.calls.proofs.Acts.{can-here, given-refused, makes, refused, descripto
 use Rattle.files.specs.declared.file.End.TheVariants as end
 use Rattle.kernel.proofs.Working.{close-reaps}
 
--- ---- places
+-- ---- slots
 
--- where two places are taken one after the other, two were free
+-- where two slots are taken one after the other, two were free
 two-free : {X : Type 0} (xs : List (Option X)) (x : X) (k m : ℕ) → free_slot xs ≡ Some k
     → free_slot (put xs k x) ≡ Some m → count_by is_none xs < 2 → ⊥
 two-free xs x k m first second few =
@@ -32,7 +32,7 @@ two-free xs x k m first second few =
     let bad : None ≡ Some m = sym none ∙ second in
     cc
 
--- the process of a place is changed
+-- the process of a slot is changed
 changed-one : (t : Places) (i : ℕ) (p : Process) (f : Process → Process) → slot t.places i ≡ Some p
     → changed t i f ≡ with_process t i (f p)
 changed-one t i p f at =
@@ -106,7 +106,7 @@ module _ {k : Kernel} {i : ℕ} (y : Here k i) (a : ℕ) (x : Ends) where
       ∙ sym (ap (λ n. 4 + page_frames n) (length-write y.held.memory a bytes)) in
       omega (arith, e, f)
 
-  -- that is what pipe makes of the state
+  -- what pipe makes of the state
   to-state : state_of to ≡ record (state_of k) {
     places = put (state_of k).places i (with_both (me y) a x.read_fd x.reader x.write_fd x.writer);
     opens = with_ends;
@@ -166,12 +166,12 @@ module _ {k : Kernel} {i : ℕ} (y : Here k i) where
         ∙ ap state_of (piped-is y a x) ∙ to-state y a x)
         (rw (can-here y a 8 can, free.pipe, free.reader, free.writer, one, two) refl)
 
-    -- and those may be
+    -- and they may be
     pub pipe-can : {q r w : ℕ} {mid : Kernel} → HasPiped k mid i q r w
         → (mid.spaces.active ≡ Some i) × (can_write (memory_at mid i) (argument k 0) 8 ≡ true)
     pipe-can has = rw has.same (y.run.active, sym can)
 
-    -- some of the places isn't there, or the frames don't suffice
+    -- one of the slots isn't there, or the frames don't suffice
     pipe-lacks : ((x : Ends) → AreFree k i x → k.spaces.frames < taken_frames (with_pipe k.spaces x.pipe (Some [])))
         → Acts k k i (Some Pipe) Refuses
     unfolding pipe_row
@@ -208,8 +208,7 @@ module _ {k : Kernel} {i : ℕ} (y : Here k i) where
         let e : b ≡ x.pipe = cc in
         rw (← e) over)
 
--- ---- dup and close: the lowest free descriptor of the running process names what another one names, or one is given
--- up
+-- ---- dup and close: the lowest free descriptor of the running process names what another one names, or one is freed
 
 module _ {k : Kernel} {i : ℕ} (x : Here k i) where
   -- ---- dup

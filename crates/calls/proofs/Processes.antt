@@ -1,4 +1,4 @@
--- kill, fork, sbrk and wait: calls on processes. A process that marks itself is answered, and ends.
+-- kill, fork, sbrk and wait: calls on processes. A process that marks itself gets its result, and ends.
 use Rattle.calls.proofs.Common.{[], Acts, answer-here, answered, answered-here, Answers, answers, ap, argument, arith}
 use Rattle.calls.proofs.Common.{asked, base, Blocks, blocks_of, Bool, Came, can_answer, cast_unsigned, change_process}
 use Rattle.calls.proofs.Common.{changed, clear, collected, copied, descriptors_at, Done, end_at, end_process, ended}
@@ -39,12 +39,12 @@ use Rattle.kernel.proofs.Working.{collected-kernel, collected-run, collected-sta
 use Rattle.kernel.proofs.Working.{zombie-idle}
 use Rattle.proc.specs.declared.table.Reaped.{Reaped}
 
--- ---- lists in which one place changes
+-- ---- lists in which one slot changes
 
 abbrev pub altered : {X : Type 0} → List (Option X) → ℕ → (X → X) → List (Option X)
 altered os i change = slice_set os i (option_map change (slot os i))
 
--- two changes that don't look at one another may be made in any order
+-- two independent changes may be made in any order
 pub altered-swap : {X : Type 0} (f g : X → X) → ((x : X) → g (f x) ≡ f (g x)) → (os : List (Option X)) (i j : ℕ)
     → altered (altered os i f) j g ≡ altered (altered os j g) i f
 altered-swap f g same [] i j = refl
@@ -54,14 +54,14 @@ altered-swap f g same (o ∷ os) zero (suc j) = refl
 altered-swap f g same (o ∷ os) (suc i) zero = refl
 altered-swap f g same (o ∷ os) (suc i) (suc j) = ap (λ ps. o ∷ ps) (altered-swap f g same os i j)
 
--- what is put in a place where all have changed may be changed before or after
+-- what is put in a slot after all have changed may be changed before or after
 pub put-altered : {X : Type 0} (all : Option X → Option X) (f : X → X) (x : X) (os : List (Option X)) (i : ℕ)
     → put (map all (altered os i f)) i (f x) ≡ altered (put (map all os) i x) i f
 put-altered all f x [] i = refl
 put-altered all f x (o ∷ os) zero = refl
 put-altered all f x (o ∷ os) (suc i) = ap (λ ps. all o ∷ ps) (put-altered all f x os i)
 
--- what is read of all that stand there stays, where it is the same of one that changes
+-- what is read of all taken slots stays, where it is the same for the one that changes
 module _ {X Y : Type 0} (read : List X → Y)
     (more : (x : X) (xs ys : List X) → read xs ≡ read ys → read (x ∷ xs) ≡ read (x ∷ ys)) (f : X → X)
     (alike : (x : X) (xs : List X) → read (f x ∷ xs) ≡ read (x ∷ xs)) where
@@ -87,7 +87,7 @@ sum-altered size f alike =
 
 -- ---- a process is marked
 
--- whichever it is
+-- any process
 mark-state : (k : Kernel) (j : ℕ) → change_process (state_of k) j rows.marked ≡ state_of (marked k j)
 mark-state k j =
     change_process-with_table rows.marked with_mark (λ g x. refl) (base (rest_of k)) (loaded k) k.spaces.places j
@@ -131,7 +131,7 @@ mark-ends s i p status =
 -- ---- the running process marks itself
 
 module _ {k : Kernel} {i : ℕ} (x : Here k i) where
-  -- it has its answer
+  -- it has its result
   abbrev y : Here (answered k 0) i
   y = answered-here x 0
 
@@ -148,7 +148,7 @@ module _ {k : Kernel} {i : ℕ} (x : Here k i) where
       ∙ slot-put (state_of (answered k 0)).places i (Some (rows.marked (me y)))
       (slot-within (state_of (answered k 0)).places i (me y) (process-here y))
 
-  -- it is answered, ends, and is marked
+  -- it gets its result, ends, and is marked
   pub settles-killed : slice_index k.spaces.registers 0 ≡ 0 → k.spaces.pc % 4 ≡ 0
       → state_of (marked (ended (answered k 0) i (negsuc 0)) i) ≡ settled_by (state_of k) i KillsItself
   settles-killed zero' aligned =
@@ -279,7 +279,7 @@ module _ {k : Kernel} {i : ℕ} (x : Here k i) where
     sbrk-over over same = rw same
         (refused x (Some Sbrk) (ap limited sized-row ∙ rw (reheld-full x.run x.sound _ over) refl))
 
--- ---- wait: the first zombie child of the running process goes, and its status is written
+-- ---- wait: the first zombie child of the running process is collected, and its status is written
 
 -- ---- the status is written
 
@@ -320,7 +320,7 @@ module _ {k : Kernel} {i : ℕ} (x : Here k i) (parent : ℕ)
     unfolding wait_on
     wait-row = ap (goes_on (state_of k) i (me x) w) number ∙ ap (wait_for (state_of k) i (me x) w) zombie-is
 
-    -- r was waited for, which left kernel m
+    -- r was collected, which left kernel m
     module _ {r : Reaped} (said : Some r ≡ reaped_at k.table (zombie_place k.table parent)) {m : Kernel}
         (left : m ≡ collected k (zombie_place k.table parent)) where
       has : HasReaped k parent r

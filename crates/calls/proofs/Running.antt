@@ -21,7 +21,7 @@ use Rattle.unixmodel.specs.State.{change_process, process_at}
 abbrev pub memory_at : Kernel → ℕ → Memory
 memory_at k i = (view_at k.spaces i).memory
 
--- how many bytes a pending read or write asks for
+-- how many bytes a pending read or write transfers
 abbrev pub wanted : Pending → ℕ
 wanted w = low (pending_arg w 2)
 
@@ -37,7 +37,7 @@ here-in sound active up = record { runner = runner-of sound active; up = up }
 pub here-of : {k : Kernel} {i : ℕ} → Runs k i → Here k i
 here-of runs = here-in runs.sound runs.active runs.up
 
--- it runs on in another kernel
+-- it still runs in another kernel
 pub here-as : {k new made : Kernel} {i : ℕ} → Here k i → IsKernel new → new ≡ made
     → made.spaces.active ≡ k.spaces.active → new.tree.failed ≡ false → Here new i
 here-as x sound is same up = here-in sound (ap (λ (y : Kernel). y.spaces.active) is ∙ same ∙ x.run.active) up
@@ -62,7 +62,7 @@ module _ {k : Kernel} {i : ℕ} (x : Here k i) where
   pub answer-here : (value : ℕ) → change_process (state_of k) i (with_answer value) ≡ state_of (answered k value)
   answer-here = answer-run k i x.process x.held x.run x.sound
 
-  -- with an answer in a0
+  -- with a result in a0
   abbrev pub answered-here : (value : ℕ) → Here (answered k value) i
   answered-here value =
       let regs = slice_set k.spaces.registers 10 value in

@@ -31,7 +31,7 @@ use Rattle.std.proofs.lemmas.Bool.Decides.{nat_tests}
 use Rattle.files.specs.declared.file.OpenFile.{OpenFile}
 use Rattle.unixmodel.specs.FileCalls as rows
 
--- ---- bytes that are put out in pieces
+-- ---- bytes that are printed in pieces
 
 front-rest : (xs : List ℕ) (a n : ℕ) → a ≤ n → take a xs ++ drop a (take n xs) ≡ take n xs
 front-rest xs a n less = ap (λ ys. ys ++ drop a (take n xs)) (sym (take-take a n xs less))
@@ -72,7 +72,7 @@ module _ (mem : Memory) (address count done : ℕ) (sized : IsSized mem)
       ∙ ap (λ (n : ℕ). drop done (take n all)) sum
       ∙ sym (ap (drop done) whole.1)
 
-  -- a piece that is put out continues what was put out before
+  -- a piece that is printed continues what was printed before
   module _ (piece : List ℕ) (most : length piece ≤ count - done)
       (front : IsFront piece (piece_at Load mem (address + done))) where
     pub prints-within : done + length piece ≤ count
@@ -94,7 +94,7 @@ module _ (mem : Memory) (address count done : ℕ) (sized : IsSized mem)
         let joined = ap (λ (bs : List ℕ). bs ++ rest) more ∙ front-rest all (done + length piece) count prints-within in
         rw whole.1 (begins_more before mid after (take done all) piece rest (take count all) printed put joined)
 
--- all is put out
+-- all is printed
 pub prints-all : (mem : Memory) (address count done : ℕ) → is_some (read_bytes mem address count) ≡ true → done ≤ count
     → count ≤ done → (before after : Option (List ℕ)) → Appends before after (take done (reach Load mem address))
     → Appends before after (unwrap_or (read_bytes mem address count) [])
@@ -130,7 +130,7 @@ module _ {k : Kernel} {i n : ℕ} {w : Pending} (g : Transfers k i end.Write (ta
         → AppendsBeginning before now (settle (state_of k) i (limited (going_at (state_of k) i w))).bytes
     puts-beginning printed = rw settles-puts (rw all at printed)
 
--- nothing is put out
+-- nothing is printed
 pub puts-none : {k new : Kernel} {i : ℕ} {w : Pending} {came : Came} (at : Option (List ℕ)) → GoesOn k new i w came
     → (bs : List ℕ) × Comes k new i (limited (going_at (state_of k) i w)) bs came × Appends at at bs
 puts-none at goes = ([], rw goes.within goes.comes, Appends-nil at)
@@ -247,7 +247,7 @@ line-fits has (suc n) [] = (omega arith, λ over. omega arith)
 line-fits has (suc n) (b ∷ bs) =
     step-fits (nat_eq b 4) (nat_eq b 10) has b n bs (take_line true n bs) (line-fits true n bs)
 
--- ---- what console and spaces answer
+-- ---- what the console and the spaces return
 
 -- what a read takes of the console
 abbrev line_for : Kernel → Pending → Taken
@@ -315,7 +315,7 @@ module _ {k : Kernel} {i n : ℕ} {w : Pending} (g : Transfers k i end.Read (tar
         ∙ rest-writes (memory_at k i) (pending_arg w 1) w.done (length line) (wanted w) f.sized g.can.buffer
         (omega (arith, most, all, left))
 
-    -- what was typed goes, and the bytes go to the process
+    -- what was typed is taken, and its bytes are written to the process
     abbrev made : Kernel
     made = wrote (typed k (record k.console { committed = k1.console.committed })) i address line
 
@@ -396,7 +396,7 @@ module _ {k : Kernel} {i : ℕ} {w : Pending} {q : ℕ} {d : End} (g : Transfers
   unfolding read_on
   pipe-row = let f = file-named g in going-is g ∙ rw (f.named, f.opened, (file g).on, pipe-here g) refl
 
-  -- its bytes go to the process
+  -- its bytes are written to the process
   abbrev drawn : Kernel
   drawn = drew k i q (pending_arg w 1) (wanted w)
 

@@ -1,4 +1,4 @@
--- A read and a write of a file, whose offset goes on behind what was transferred; and fstat.
+-- A read and a write of a file, whose offset goes on after what was transferred; and fstat.
 use Rattle.calls.proofs.Common.{[], Acts, and_parts, Answers, answers, ap, argument, arith, blocks_of, Bool, bytes_of}
 use Rattle.calls.proofs.Common.{bytes_read, can_write, cond_some, counting, descriptors_at, Directory, Done, drop, Err}
 use Rattle.calls.proofs.Common.{false, File, file-opens, file_at, file_of, Files, FileTree, FitsNode, Fstat, fstat_row}
@@ -33,11 +33,11 @@ use Rattle.std.proofs.Math.Nat.{div-div-eq-div-mul}
 use Rattle.files.specs.declared.table.FileFault.{FileFault}
 use Rattle.unixmodel.specs.Memory.{overwrite}
 
--- a number that is no more than another one is its low 32 bits, where that one is
+-- a number below 2^32 is its low 32 bits
 low-same : (n m : ℕ) → n ≤ m → m < 2 ^ 32 → low n ≡ n
 low-same n m few short = omega (arith, few, short)
 
--- so many bytes were transferred, which end within the longest file
+-- n bytes were transferred, which end within the longest file
 module _ {k : Kernel} {i : ℕ} {e : End} {number offset : ℕ} {w : Pending}
     (g : Transfers k i e (target.File number offset) w) (n : ℕ) (near : offset + n ≤ longest) where
   same : low n ≡ n
@@ -61,7 +61,7 @@ module _ {k : Kernel} {i : ℕ} {e : End} {number offset : ℕ} {w : Pending}
       ≡ put (opens_of k.files) (file g).number (record (file_of (file g).file) { target = OnNode number (offset + n) })
   moved-opens = opens-moved k.files (file g).number (offset + n) number offset (file g).file (file g).opened (file g).on
 
-  -- m, which is z, is what the transfer left, and new what goes on behind it
+  -- m, which is z, is what the transfer left, and new what goes on after it
   moves-done : {m z new : Kernel} → m ≡ z → z.spaces.active ≡ k.spaces.active → {id l : ℕ} → id ≡ (file g).number
       → l ≡ low n → new ≡ advanced m id (offset + l) → IsKernel new → IsServed k.tree m.tree
       → (answer : ℕ) → going (here g) w ≡ Done (state_of (advanced z (file g).number (offset + n))) answer []
@@ -115,7 +115,7 @@ module _ {k : Kernel} {i : ℕ} {w : Pending} {number offset : ℕ} (u : Uses k 
     pub content : HasBytes (slot k.tree.files number) offset
     content = has-bytes (file g).file number offset (slot k.tree.files number) (file-fits g)
 
-    -- what comes
+    -- the bytes that are read
     abbrev piece : List ℕ
     piece = bytes_read k.tree.files number offset count
 
@@ -125,7 +125,7 @@ module _ {k : Kernel} {i : ℕ} {w : Pending} {number offset : ℕ} (u : Uses k 
     piece-is : piece ≡ bytes
     piece-is = ap (λ (o : Option Node). take count (drop offset (bytes_of o))) content.here
 
-    -- m is what the read left, and new what goes on behind it
+    -- m is what the read left, and new what goes on after it
     module _ (whole : IsWhole k.tree) {m : Kernel} {n c : ℕ} (wide : c ≡ count)
         (fetched : HasFetched k m i number offset address c n) where
       told : HasFetched k m i number offset address count n
@@ -189,7 +189,7 @@ module _ {k : Kernel} {i : ℕ} {w : Pending} {number offset : ℕ} (u : Uses k 
 
 -- ---- a write: the row
 
--- what is written so, and what is answered
+-- what such a write leaves, and what it returns
 record IsStored (s : State) (k : ℕ) (f : unix_files.OpenFile) (n at links : ℕ) (old new : List ℕ) (v : Written) : Type
     0 where
   row : write_node s k f n at links old new
@@ -338,7 +338,7 @@ module _ {k : Kernel} {i : ℕ} {w : Pending} {number offset : ℕ} (u : Uses k 
             ∙ ap (λ (o : ℕ). Done (state_of (advanced z (file to).number (offset + n))) o [])
             (ap (λ (l : ℕ). if n == l then n else minus_one) (length-given to ∙ sym wide) ∙ sym answers))
 
--- ---- fstat: a node tells of itself
+-- ---- fstat: the attributes of a node
 
 -- ---- bytes of numbers
 
@@ -430,7 +430,7 @@ module _ {k : Kernel} {i : ℕ} (x : Here k i) {d id : ℕ} (is : d ≡ low (arg
         refused x (Some Fstat) (ap limited
         (fstat-row ∙ ap (λ (b : Bool). provided b writes) (can-here x (argument k 1) 24 cannot)))
 
-    -- the node was told, and its bytes are written
+    -- the node's attributes are known, and its bytes are written
     module _ (can : true ≡ can_write (memory_at k i) (argument k 1) 24) {read : Kernel} (has : HasRead k read) {a : ℕ}
         (is-a : a ≡ argument k 1) (told : InodeStat) {bytes : List ℕ} (numbers : bytes ≡ stat_told n told) where
       pub fstat-can : can_write (memory_at read i) a (length bytes) ≡ true

@@ -26,7 +26,7 @@ use Rattle.calls.specs.Resuming.{taken, resumed, resumed_by, resumed_in, taken_b
 use Rattle.unixmodel.specs.Next as next
 use Rattle.unixmodel.specs.Process as unix
 
--- ---- what an event begins with
+-- ---- how an event begins
 
 -- a step where a process runs does an instruction
 pub next-executes : (k : Kernel) (i : ℕ) → IsKernel k → k.spaces.active ≡ Some i
@@ -65,7 +65,7 @@ pub keys-made : (k new : Kernel) (b : ℕ) (before after : Option (List ℕ))
 keys-made k new b before after made printed =
     rw (next-keys k b) (record { state = state-but (typed k (key k.console b).console) made; printed = printed })
 
--- ---- what is told
+-- ---- results
 
 -- nothing is printed
 pub made-quiet : (new : Kernel) (a : After) (at : Option (List ℕ)) → a ≡ quiet (state_of new) → IsMade new a at at
@@ -78,7 +78,7 @@ pub ends-if : (new e : Kernel) (a : After) (r : Result (Unit {0}) DeviceFault)
 ends-if new e a (Ok done) made is = is ∙ ap quiet (sym (state-but (counting e new.tree.failures) made))
 ends-if new e a (Err fault) made is = tt
 
--- what is made tells how the machine halts
+-- the result of what was made says how the machine halts
 pub does-made : (new : Kernel) (a : After) (before after : Option (List ℕ)) (rising : Type 0) (o : Option ℤ)
     → new.halted ≡ o → IsMade new a before after → EventGives new a before after rising (halt_of o)
 does-made new a before after rising None halts made =
@@ -167,7 +167,7 @@ module _ (k : Kernel) (i : ℕ) (p : Process) (is : IsKernel k) (none : k.spaces
       ∙ sym (ap (resumed_in (state_of k) i whole) waits)
       ∙ sym (ap (resumed_by (state_of k) i) (process-idle k i none there.1))
 
--- the place that a turn picks is taken
+-- the slot that a turn picks is taken
 pub turn-takes : (k : Kernel) (i : ℕ) → IsKernel k → k.spaces.active ≡ None → turn (state_of k) ≡ Some i
     → take_turn (state_of k) (turn (state_of k)) ≡ taken (state_of (picked k i)) i
 turn-takes k i is none found =
@@ -213,7 +213,7 @@ resting-of k i w (Some p) is at waits =
       ),
     )
 
--- the process in place i, which waited with w in kernel k, runs again in kernel s
+-- the process in slot i, which waited with w in kernel k, runs again in kernel s
 pub record Resumes (k s : Kernel) (i : ℕ) (w : Pending) : Type 0 where
   pub runs : Runs s i
   pub can : CanWait s i w

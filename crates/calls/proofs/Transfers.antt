@@ -1,4 +1,4 @@
--- How a read and a write begin, and what they go on with: their tests are the same.
+-- How a read and a write begin, and how they go on: their tests are the same.
 use Rattle.calls.proofs.Common.{Acts, ActsOnDisk, Answers, ap, arg, argument, arith, Bool, bytes_given, bytes_in, Came}
 use Rattle.calls.proofs.Common.{can_write, CanWait, cast_signed, cast_unsigned, cond_some, Counted, descriptors_at}
 use Rattle.calls.proofs.Common.{descriptors_in, DeviceFault, Directory, Err, false, false≢true, File, file-opens}
@@ -35,7 +35,7 @@ natural-pos (negsuc n) c is = absurd cc
 natural-cast : (n c : ℕ) → n < 2 ^ 32 → natural (cast_signed w32 n) ≡ Some c → n ≡ c
 natural-cast n c small is = sym (of_z-to_z w32 n small) ∙ ap (cast_unsigned w32) (natural-pos (cast_signed w32 n) c is)
 
--- the number that an int is, if it is not below 0
+-- the number that an int stands for, if it is not below 0
 int-low : (x c : ℕ) → natural (int_of x) ≡ Some c → low x ≡ c
 int-low x c is = natural-cast (low x) c (omega arith) is
 
@@ -50,7 +50,7 @@ usable-node f (target.Console m) n (Some (Device links major minor)) on fits = r
 usable-node f (target.Device m) n (Some (Device links major minor)) on fits = fits
 usable-node f _ n _ on fits = absurd fits
 
--- what is open may be read and written, but for a device that isn't the console
+-- what is open may be read and written, except for a device that isn't the console
 usable-open : (files : Files) (f : OpenFile) (t : Target) → FitsNode f t (node_of files (node_on t))
     → is_usable files (target_of t) ≡ is_some (result_ok (usable t))
 usable-open files f (target.File n offset) fits = usable-node f (target.File n offset) n (slot files n) refl fits
@@ -121,7 +121,7 @@ mode-is Write o f at flag = rw at flag
 
 -- ---- the row
 
--- what is tested behind the descriptor, and behind the file
+-- what is tested after the descriptor, and after the file
 abbrev filed : End → State → Option OpenFile → Outcome → Outcome
 filed e s o rest = given o (λ f. provided (may e f && is_usable s.files (target_of f.target)) rest)
 
@@ -152,7 +152,7 @@ row-files Write k i p = given-named k.files (slot p.descriptors (low (arg p 0)))
     (λ (f : unix_files.OpenFile). provided (f.writable && is_usable k.tree.files f.target)
     (counted Write (state_of k) i p))
 
--- the file's test is what the kernel answers
+-- the file's test is what the kernel returns
 filed-is : (o : Option OpenFile) (e : End) (s : State) (rest : Outcome) → IfSome o (λ f. FitsFiles s.files f)
     → filed e s o rest ≡ given (target_for e o) (λ t. rest)
 filed-is (Some f) e s rest fits = ap (λ b. provided (may e f && b) rest) (usable-open s.files f f.target fits)
@@ -343,7 +343,7 @@ module _ {k : Kernel} {i : ℕ} {t : Target} {w : Pending} (g : Transfers k i Wr
   read-given = ap (λ (h : SpaceView). read_bytes h.memory (pending_arg w 1) (wanted w)) (sym (held-here (here g)))
       ∙ some-pipe (read_bytes (memory_at k i) (pending_arg w 1) (wanted w)) g.can.readable
 
-  -- as many as were asked for
+  -- as many as were requested
   pub length-given : length given_bytes ≡ wanted w
   length-given =
       let n = wanted w in

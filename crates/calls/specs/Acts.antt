@@ -30,7 +30,7 @@ use Rattle.unixmodel.specs.State.{State, change_process, process_at}
 
 -- ---- what the abstract Unix makes of a call
 
--- the call of the process in a place
+-- the call of the process in a slot
 abbrev pub called_by : State → ℕ → Option unix.Process → After
 called_by s i None = quiet s
 called_by s i (Some p) = call s i p
@@ -40,7 +40,7 @@ called s i = called_by s i (process_at s i)
 
 -- ---- the call of the running process
 
--- the process in place i runs
+-- the process in slot i runs
 pub record Runs (k : Kernel) (i : ℕ) : Type 0 where
   pub active : k.spaces.active ≡ Some i
   pub up : k.tree.failed ≡ false
@@ -52,7 +52,7 @@ abbrev pub outcome_by : State → ℕ → Option Call → Option unix.Process �
 outcome_by s i call None = Refused
 outcome_by s i call (Some p) = outcome_of s i p call
 
--- what the row of a call says of the process in place i
+-- the outcome of a call's row for the process in slot i
 abbrev pub outcome_at : State → ℕ → Option Call → Outcome
 outcome_at s i call = outcome_by s i call (process_at s i)
 
@@ -63,7 +63,7 @@ pub record IsBegun (k e : Kernel) (i : ℕ) : Type 0 where
   pub row : (call : Option Call) → call_of (low (slice_index k.spaces.registers 17)) ≡ call
       → called (state_of k) i ≡ settle (state_of e) i (outcome_at (state_of e) i call)
 
--- what the process in place i comes to as it goes on with a pending call
+-- the outcome of a pending call of the process in slot i as it goes on
 abbrev pub going_by : State → ℕ → Pending → Option unix.Process → Outcome
 going_by s i w None = Refused
 going_by s i w (Some p) = goes_on s i p w w.number
@@ -71,7 +71,7 @@ going_by s i w (Some p) = goes_on s i p w w.number
 abbrev pub going_at : State → ℕ → Pending → Outcome
 going_at s i w = going_by s i w (process_at s i)
 
--- process i has marked itself, and has its answer
+-- process i has marked itself, and has its result
 abbrev pub marked_by : State → ℕ → State
 marked_by s i = change_process (change_process s i marked) i (with_answer 0)
 
@@ -93,7 +93,7 @@ abbrev pub CanWait : Kernel → ℕ → Pending → Type 0
 CanWait k i w = IsPending (descriptors_at k i) (view_at k.spaces i).memory w w.number
     × IsAwaiting k.files (descriptors_at k i) w
 
--- a call may come to that: a status is an int
+-- a call may end so: a status is an int
 abbrev pub CanCome : Kernel → ℕ → Came → Type 0
 CanCome k i (Answers value) = Unit {0}
 CanCome k i Refuses = Unit {0}
@@ -101,7 +101,7 @@ CanCome k i (Blocks w) = CanWait k i w
 CanCome k i (Exits status) = cast_signed w32 (cast_unsigned w32 status) ≡ status
 CanCome k i KillsItself = Unit {0}
 
--- only a call that is answered puts out bytes
+-- only a call that returns a result prints bytes
 abbrev pub MayPrint : Came → List ℕ → Type 0
 MayPrint (Answers value) bytes = Unit {0}
 MayPrint _ bytes = bytes ≡ []
@@ -112,7 +112,7 @@ IsEnd (Exits status) = Unit {0}
 IsEnd KillsItself = Unit {0}
 IsEnd _ = ⊥
 
--- the call that has that outcome is done, but for what it came to; bytes: what it puts out on the console
+-- the call with that outcome is done, except that it isn't settled; bytes: what it prints on the console
 pub record Comes (old new : Kernel) (i : ℕ) (o : Outcome) (bytes : List ℕ) (came : Came) : Type 0 where
   pub makes : settle (state_of old) i o ≡ record { state = settled_by (state_of new) i came; bytes = bytes }
   pub active : new.spaces.active ≡ Some i
@@ -121,18 +121,18 @@ pub record Comes (old new : Kernel) (i : ℕ) (o : Outcome) (bytes : List ℕ) (
   pub printed : MayPrint came bytes
   pub served : IsServed old.tree new.tree
 
--- a call that puts out nothing
+-- a call that prints nothing
 abbrev pub Acts : Kernel → Kernel → ℕ → Option Call → Came → Type 0
 Acts old new i call came = Comes old new i (outcome_at (state_of old) i call) [] came
 
--- a pending call that goes on: it puts out nothing, and makes no state over its limits
+-- a pending call that goes on: it prints nothing, and makes no state over its limits
 pub record GoesOn (old new : Kernel) (i : ℕ) (w : Pending) (came : Came) : Type 0 where
   pub comes : Comes old new i (going_at (state_of old) i w) [] came
   pub within : limited (going_at (state_of old) i w) ≡ going_at (state_of old) i w
 
 -- ---- where the device or the console's writer may fail
 
--- a call that may touch the disk, and puts out nothing
+-- a call that may touch the disk, and prints nothing
 abbrev pub ActsOnDisk : Kernel → Kernel → ℕ → Option Call → Result Came DeviceFault → Type 0
 ActsOnDisk old new i call (Ok came) = Acts old new i call came
 ActsOnDisk old new i call (Err fault) = IsLost old.tree new.tree
@@ -141,15 +141,15 @@ abbrev pub GoesOnDisk : Kernel → Kernel → ℕ → Pending → Result Came De
 GoesOnDisk old new i w (Ok came) = GoesOn old new i w came
 GoesOnDisk old new i w (Err fault) = IsLost old.tree new.tree
 
--- a call that has that outcome; before and after: what the writer took; console: the writer's count of failures rose
+-- a call with that outcome; before and after: what the writer took; console: the writer's count of failures rose
 abbrev pub Tries : Kernel → Kernel → ℕ → Outcome → Option (List ℕ) → Option (List ℕ) → Type 0 → Result Came Halt
     → Type 0
 Tries old new i o before after console (Ok came) = (bytes : List ℕ) × Comes old new i o bytes came
     × Appends before after bytes
--- a beginning of what it puts out is on the console, and the files are as they were
+-- a beginning of what it prints is on the console, and the files are as they were
 Tries old new i o before after console (Err Console) = console
     × AppendsBeginning before after (settle (state_of old) i o).bytes × (new.tree ≡ old.tree)
--- nothing is
+-- nothing is printed
 Tries old new i o before after console (Err Device) = IsLost old.tree new.tree × Appends before after []
 Tries old new i o before after console (Err (InitEnded status)) = ⊥
 Tries old new i o before after console (Err Halted) = ⊥

@@ -31,13 +31,13 @@ stands_at stops (Some p) = is_stop stops p.pc
 abbrev pub is_at : List ℕ → State → Bool
 is_at stops s = stands_at stops (running_process s)
 
--- after so many steps
+-- the state after n steps
 abbrev pub after_steps : State → ℕ → State
 after_steps s n = (run s (replicate n Step)).state
 
 pub record Computes (old new : State) (stops : List ℕ) (most count : ℕ) : Type 0 where
   pub within : count ≤ most
-  -- so many steps, which print nothing
+  -- `count` steps, which print nothing
   pub steps : run old (replicate count Step) ≡ quiet new
   -- none of them calls or faults, and there is none where nobody runs
   pub computing : (n : ℕ) → n < count → computes (after_steps old n) ≡ true

@@ -1,4 +1,4 @@
--- What a step of the kernel comes to.
+-- What a step of the kernel returns.
 use Rattle.console.specs.Output.{AppendsBeginning}
 use Rattle.calls.specs.declared.halt.Halt.{Halt}
 use Rattle.calls.specs.declared.halt.Halt.TheVariants.{Console, Device, Halted, InitEnded}
@@ -23,7 +23,7 @@ pub record IsMade (new : Kernel) (a : After) (before after : Option (List ℕ)) 
   pub state : state_of new ≡ a.state
   pub printed : Appends before after a.bytes
 
--- what a call that makes `a` is answered with; rising: the console's count of failures rose
+-- what a call that makes `a` returns; rising: the console's count of failures rose
 abbrev pub Dispatches : {X : Type 0} → Kernel → After → Option (List ℕ) → Option (List ℕ) → Type 0 → Result X Halt
     → Type 0
 Dispatches new a before after rising (Ok x) = IsMade new a before after
@@ -33,12 +33,12 @@ Dispatches new a before after rising (Err Console) = rising × AppendsBeginning 
 Dispatches new a before after rising (Err Device) = Appends before after []
 Dispatches new a before after rising (Err Halted) = ⊥
 
--- the answer where the state halts so
+-- the result where the state halts so
 abbrev pub halt_of : Option ℤ → Result (Unit {0}) Halt
 halt_of None = Ok tt
 halt_of (Some status) = Err (InitEnded status)
 
--- what a step that makes `a` is answered with; rising: the console's count of failures rose
+-- what a step that makes `a` returns; rising: the console's count of failures rose
 abbrev pub EventGives : Kernel → After → Option (List ℕ) → Option (List ℕ) → Type 0 → Result (Unit {0}) Halt → Type 0
 EventGives new a before after rising (Ok u) = Makes new a before after None
 EventGives new a before after rising (Err (InitEnded status)) = Makes new a before after (Some status)
@@ -57,13 +57,13 @@ abbrev pub EventGivesTo : {W : Type 0} → (W → Option (List ℕ)) → (W → 
 EventGivesTo contents failures new from to a result =
     EventGives new a (contents from) (contents to) (Rises (failures from) (failures to)) result
 
--- what the instruction at the pc of the process of a place makes
+-- what the instruction at the pc of the process of a slot makes
 abbrev pub executed : Kernel → ℕ → After
 executed k at = execute_at (state_of k) at (process_at (state_of k) at)
 
 -- ---- the files of the disk
 
--- what an event that is answered so leaves of the files of the disk
+-- what an event with this result leaves of the files of the disk
 abbrev pub LeavesTree : {X : Type 0} → FileTree → FileTree → Result X Halt → Type 0
 LeavesTree old new (Ok x) = IsServed old new
 LeavesTree old new (Err (InitEnded status)) = IsServed old new

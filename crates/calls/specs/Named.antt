@@ -1,4 +1,4 @@
--- What a call on names comes to, by what the tree answers.
+-- What a call on names returns, by what the tree returns.
 use Rattle.std.specs.Prelude.{Err, Ok, Result, false, true, ◌≡◌}
 use Rattle.blockdev.specs.declared.DeviceFault.{DeviceFault}
 use Rattle.calls.specs.declared.outcome.Came.{Came}
@@ -11,7 +11,7 @@ abbrev pub IsRefused : TreeFault → Result Came DeviceFault → Type 0
 IsRefused fault (Ok came) = (came ≡ Refuses) × (is_device fault ≡ false)
 IsRefused fault (Err lost) = is_device fault ≡ true
 
--- or the answer is 0
+-- or the result is 0
 abbrev pub IsNamed : {X : Type 0} → Result X TreeFault → Result Came DeviceFault → Type 0
 IsNamed (Ok x) came = came ≡ Ok (Answers 0)
 IsNamed (Err fault) came = IsRefused fault came

@@ -1,4 +1,4 @@
--- What open makes of a kernel, step by step.
+-- What open does to a kernel, step by step.
 use Rattle.std.specs.Prelude.{Bool, Err, List, Ok, Option, Result, Some, if◌then◌else◌, nat_le, nat_lt, not, true, ℕ}
 use Rattle.std.specs.Prelude.{◌&&◌, ◌==◌, ◌||◌, ◌≡◌, ◌≤◌}
 use Rattle.blockdev.specs.declared.DeviceFault.{DeviceFault}
@@ -24,7 +24,7 @@ use Rattle.unixmodel.specs.OpenFiles as unix
 use Rattle.unixmodel.specs.Process.{Process}
 use Rattle.unixmodel.specs.State.{State, process_at}
 
--- ---- what is asked for
+-- ---- what is requested
 
 -- argument 0 is that path, argument 1 the flags, and o is the number that the path reaches
 pub record Asks (k : Kernel) (i : ℕ) (path : List ℕ) (f : ℕ) (o : Option ℕ) : Type 0 where
@@ -34,7 +34,7 @@ pub record Asks (k : Kernel) (i : ℕ) (path : List ℕ) (f : ℕ) (o : Option �
 
 -- ---- an open file
 
--- what is open on number n, whose inode tells that type and major
+-- what is open on number n, whose inode says that type and major
 abbrev pub target_by : ℕ → ℕ → ℕ → Target
 target_by n kind major =
     if kind == 3 then (if major == 1 then target.Console n else target.Device n) else target.File n 0
@@ -43,11 +43,11 @@ target_by n kind major =
 abbrev pub file_by : ℕ → Target → OpenFile
 file_by f on = record { target = on; readable = not (has_bit f 0); writable = has_bit f 0 || has_bit f 1 }
 
--- whether flags f may open what tells that type and major
+-- whether flags f may open a node of that type and major
 abbrev pub may_open_by : ℕ → ℕ → ℕ → Bool
 may_open_by f kind major = if kind == 1 then f == 0 else if kind == 3 then nat_le major 9 else true
 
--- flags f may open number n, of which that is told
+-- flags f may open number n, whose attributes these are
 pub record IsOpenable (files : Files) (n f : ℕ) (told : InodeStat) : Type 0 where
   pub node : Node
   pub here : slot files n ≡ Some node
@@ -55,17 +55,17 @@ pub record IsOpenable (files : Files) (n f : ℕ) (told : InodeStat) : Type 0 wh
   pub major : TellsMajor told.major node
   pub may : may_open f node ≡ true
 
--- ---- a descriptor and a place for it
+-- ---- a descriptor and a slot for it
 
 abbrev pub has_seat : Kernel → ℕ → Bool
 has_seat k i = nat_lt 0 (free_descriptors k.table i) && nat_lt 0 (free_count k.files)
 
--- descriptor fd of process p, in place i, names f, which takes a place
+-- descriptor fd of process p, in slot i, names f, which takes a slot
 abbrev pub with_open : State → ℕ → Process → ℕ → ℕ → unix.OpenFile → State
 with_open s i p fd place f =
     record s { places = put s.places i (with_descriptor p fd place); opens = put s.opens place f }
 
--- the lowest free descriptor of process i, fd, names f, which takes the lowest free place
+-- the lowest free descriptor of process i, fd, names f, which takes the lowest free slot
 pub record Opens (old new : Kernel) (i : ℕ) (f : unix.OpenFile) (fd : ℕ) : Type 0 where
   pub place : ℕ
   pub first : free_slot (opens_of old.files) ≡ Some place

@@ -10,19 +10,19 @@ use Rattle.kernel.specs.Memory.{wrote}
 
 -- ---- sbrk
 
--- the size that is asked for, if it is not below 0
+-- the size that is requested, if it is not below 0
 abbrev pub asked : Kernel → ℕ → ℤ → Option ℕ
 asked k i delta = natural (pos (view_at k.spaces i).size +ℤ delta)
 
 -- ---- wait
 
--- the status of a child stands at an address of process i, unless that is 0
+-- the status of a child is written to an address of process i, unless that is 0
 abbrev pub with_status : Kernel → ℕ → ℕ → ℤ → Kernel
 with_status k i address status = if address == 0 then k else wrote k i address (le 4 (cast_unsigned w32 status))
 
 -- ---- kill
 
--- the place of the process with a pid that is not below 1
+-- the slot of the process with a pid that is not below 1
 abbrev pub place_called : List (Option Process) → Option ℕ → Option ℕ
 place_called places None = None
 place_called places (Some zero) = None

@@ -1,4 +1,4 @@
--- What calls read of their arguments, and what fstat tells.
+-- What calls read of their arguments, and what fstat writes.
 use Rattle.std.specs.Prelude.{List, Option, ℕ, ◌++◌}
 use Rattle.inode.specs.declared.InodeStat.{InodeStat}
 use Rattle.kernel.specs.Kernel.{Kernel, argument}

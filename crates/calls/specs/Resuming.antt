@@ -28,7 +28,7 @@ abbrev pub resumed_by : State → ℕ → Option unix.Process → After
 resumed_by s i None = quiet s
 resumed_by s i (Some p) = resumed_in s i p p.mode
 
--- the process in a place, which was picked, goes on with its pending call
+-- the process in a slot, which was picked, goes on with its pending call
 abbrev pub resumed : State → ℕ → After
 resumed s i = resumed_by s i (process_at s i)
 
@@ -36,6 +36,6 @@ abbrev pub taken_by : State → ℕ → Option unix.Process → After
 taken_by s i None = quiet s
 taken_by s i (Some p) = next.picked s i p
 
--- the process in a place, which was picked, ends, runs or goes on with its pending call
+-- the process in a slot, which was picked, ends, runs or goes on with its pending call
 abbrev pub taken : State → ℕ → After
 taken s i = taken_by s i (process_at s i)

@@ -1,4 +1,4 @@
--- What many steps of the kernel come to.
+-- What many steps of the kernel return.
 use Rattle.std.specs.Prelude.{Err, List, None, Ok, Option, Result, Some, false, replicate, true, ℕ, ◌+◌, ◌<◌, ◌≡◌, ◌≤◌}
 use Rattle.std.specs.Io.KnownBytes.{Appends}
 use Rattle.console.specs.Output.{AppendsBeginning}
@@ -16,16 +16,16 @@ use Rattle.unixmodel.specs.Next.{next}
 use Rattle.unixmodel.specs.Run.{run}
 use Rattle.unixmodel.specs.State.{State}
 
--- what so many steps make
+-- what `count` steps make
 abbrev pub stepped : Kernel → ℕ → After
 stepped k count = run (state_of k) (replicate count Step)
 
--- so many steps are done as the abstract Unix says, and it goes on
+-- `count` steps are done as the abstract Unix says, and the kernel goes on
 pub record Went (old now : Kernel) (count : ℕ) (before after : Option (List ℕ)) : Type 0 where
   pub makes : Makes now (stepped old count) before after None
   pub served : IsServed old.tree now.tree
 
--- the last of so many steps halts: those before it went
+-- the last of `count` steps halts: those before it went on
 pub record StopsAt (old new : Kernel) (count : ℕ) (before after : Option (List ℕ)) (rising : Type 0) (halt : Halt)
     : Type 0 where
   pub mid : Kernel
@@ -40,18 +40,18 @@ pub record IsBusy (s : State) : Type 0 where
   pub goes : s.halted ≡ None
   pub busy : is_idle s ≡ false
 
--- so it is before each of so many steps
+-- so it is before each of `count` steps
 abbrev pub IsBusyFor : State → ℕ → Type 0
 IsBusyFor s count = (done : ℕ) → done < count → IsBusy (run s (replicate done Step)).state
 
--- so many steps went, none only where nobody runs and none is ready; or the last of them halts
+-- `count` steps went on, none only where nobody runs and none is ready; or the last of them halts
 abbrev pub PieceGoes : Kernel → Kernel → ℕ → Option (List ℕ) → Option (List ℕ) → Type 0 → Result (Unit {0}) Halt
     → Type 0
 PieceGoes old new count before after rising (Ok u) = Went old new count before after
     × (count ≡ 0 → is_idle (state_of new) ≡ true)
 PieceGoes old new count before after rising (Err halt) = StopsAt old new count before after rising halt
 
--- what the first of so many steps are answered with, which are done in one go
+-- what the first of `most` steps return, which are done at once
 pub record PieceGives (old new : Kernel) (most : ℕ) (before after : Option (List ℕ)) (rising : Type 0) (count : ℕ)
     (result : Result (Unit {0}) Halt) : Type 0 where
   pub within : count ≤ most
@@ -65,8 +65,8 @@ pub record DeviceStops (old : Kernel) (count : ℕ) (before after : Option (List
   pub goes : (stepped old done).state.halted ≡ None
   pub printed : Appends before after (stepped old done).bytes
 
--- the console's count of failures rose at the step after so many, a beginning of what all print was printed, and the
--- files are those that the steps before it leave
+-- the console's count of failures rose at the step after the first `done`, a beginning of what all print was printed,
+-- and the files are those that the first `done` steps leave
 pub record ConsoleStops (old new : Kernel) (count : ℕ) (before after : Option (List ℕ)) (rising : Type 0) : Type 0 where
   pub rises : rising
   pub printed : AppendsBeginning before after (stepped old count).bytes
@@ -75,7 +75,7 @@ pub record ConsoleStops (old new : Kernel) (count : ℕ) (before after : Option 
   pub goes : (stepped old done).state.halted ≡ None
   pub files : new.tree.files ≡ (stepped old done).state.files
 
--- what so many steps are answered with; rising: the console's count of failures rose
+-- what `count` steps return; rising: the console's count of failures rose
 abbrev pub StepsGive : Kernel → Kernel → ℕ → Option (List ℕ) → Option (List ℕ) → Type 0 → Result (Unit {0}) Halt
     → Type 0
 StepsGive old new count before after rising (Ok u) = Makes new (stepped old count) before after None
@@ -96,7 +96,7 @@ abbrev pub StepsGiveTo : {W : Type 0} → (W → Option (List ℕ)) → (W → �
 StepsGiveTo contents failures old new from to count result =
     StepsGive old new count (contents from) (contents to) (Rises (failures from) (failures to)) result
 
--- what steps that are answered so leave of the files of the disk
+-- what steps with this result leave of the files of the disk
 abbrev pub LeavesFiles : {X : Type 0} → FileTree → FileTree → Result X Halt → Type 0
 LeavesFiles old new (Ok x) = IsServed old new
 LeavesFiles old new (Err (InitEnded status)) = IsServed old new

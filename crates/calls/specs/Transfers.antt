@@ -1,5 +1,5 @@
--- How read and write begin, and go on with what a descriptor names. Which of them it is goes by the end of a pipe that
--- it would use.
+-- How read and write begin, and go on with what a descriptor names. They are told apart by the end of a pipe that
+-- each would use.
 use Rattle.std.specs.Prelude.{Bool, IfSome, List, Ok, Option, Some, is_some, length, option_map, take, true, ℕ, ◌≡◌}
 use Rattle.std.specs.Prelude.{◌≤◌}
 use Rattle.std.specs.Result.{result_ok}
@@ -65,7 +65,7 @@ OnConsole k i end w = (n : ℕ) × Transfers k i end (target.Console n) w
 abbrev pub OnThePipe : Kernel → ℕ → End → ℕ → Pending → Type 0
 OnThePipe k i end q w = (e : End) × Transfers k i end (target.Pipe q e) w
 
--- its row is what the pending call comes to, within the limits
+-- its row is the outcome of the pending call, within the limits
 pub record Begins (k : Kernel) (i : ℕ) (end : End) (t : Target) (w : Pending) : Type 0 where
   pub uses : Uses k i end t w
   pub row : outcome_at (state_of k) i (Some (call_on end)) ≡ limited (going_at (state_of k) i w)

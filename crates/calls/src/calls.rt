@@ -51,7 +51,7 @@ fn call_of(number: u32) -> Option<Call>
     }
 }
 
-/// The running process begins its call: the pc goes on by 4.
+/// The running process begins its call: the pc advances by 4.
 pub(crate) fn begin<D: BlockDev, T: Translate>(kernel: &mut Kernel<D, T>, at: usize)
     requires running { kernel.old.spaces.active ≡ Some at }
     requires up { kernel.old.tree.failed ≡ false }
@@ -61,7 +61,7 @@ pub(crate) fn begin<D: BlockDev, T: Translate>(kernel: &mut Kernel<D, T>, at: us
     kernel.enter();
 }
 
-// The table of calls: a call that has begun, but for what it comes to; a number of no call is refused. `Device`,
+// The table of calls: does a call that has begun, except for settling it; a number of no call is refused. `Device`,
 // `Console`: the device failed, the console did.
 fn act<D: BlockDev, T: Translate, W: Out>(
     kernel: &mut Kernel<D, T>,
@@ -102,7 +102,7 @@ fn act<D: BlockDev, T: Translate, W: Out>(
     Ok(came?)
 }
 
-/// The call that the running process makes.
+/// Does the call of the running process.
 #[inline(never)]
 pub fn call<D: BlockDev, T: Translate, W: Out>(
     kernel: &mut Kernel<D, T>,

@@ -23,7 +23,7 @@ fn ints(first: usize, second: usize) -> [u8; 8]
     [first as u8, 0, 0, 0, second as u8, 0, 0, 0]
 }
 
-// The lowest free descriptor of the process in a place.
+// The lowest free descriptor of the process in a slot.
 fn free_descriptor<D: BlockDev, T: Translate>(kernel: &Kernel<D, T>, at: usize) -> Option<usize>
     ensures place { result ≡ free_slot (descriptors_at kernel.now at) }
     ensures within { IfSome result (λ free. free < 16) }
@@ -31,7 +31,7 @@ fn free_descriptor<D: BlockDev, T: Translate>(kernel: &Kernel<D, T>, at: usize) 
     descriptors::free_descriptor(&kernel.process(at)?.descriptors)
 }
 
-/// dup(descriptor): the lowest free descriptor names the same open file, and is the answer.
+/// dup(descriptor): the lowest free descriptor names the same open file, and is the result.
 pub(crate) fn dup<D: BlockDev, T: Translate>(kernel: &mut Kernel<D, T>, at: usize) -> Came
     requires { Runs kernel.old at }
     ensures { Acts kernel.old kernel.new at (Some Call.Dup) result }

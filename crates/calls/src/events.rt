@@ -1,4 +1,4 @@
-//! What a machine asks of the kernel: an event.
+//! The events of a machine, as the kernel handles them.
 //!
 //! What seldom happens is kept out of line (`inline(never)`), so that the code of a step that only does an
 //! instruction stays small.
@@ -170,7 +170,7 @@ fn take_turn<D: BlockDev, T: Translate>(kernel: &mut Kernel<D, T>) -> Result<(),
     }
 }
 
-// The process in a place, which was picked, ends if it is killed; else it runs, or goes on with its call.
+// The process in a slot, which was picked, ends if it is killed; else it runs, or goes on with its call.
 pub(crate) fn take<D: BlockDev, T: Translate>(
     kernel: &mut Kernel<D, T>,
     at: usize,
@@ -198,7 +198,7 @@ pub(crate) fn take<D: BlockDev, T: Translate>(
     }
 }
 
-// The process in a place, where none runs, goes on with its pending call.
+// The process in a slot, where none runs, goes on with its pending call.
 fn go_on<D: BlockDev, T: Translate>(
     kernel: &mut Kernel<D, T>,
     at: usize,
@@ -216,7 +216,7 @@ fn go_on<D: BlockDev, T: Translate>(
     settle(kernel, at, came)
 }
 
-// What a pending call of the running process comes to.
+// Goes on with a pending call of the running process.
 fn act_on<D: BlockDev, T: Translate>(kernel: &mut Kernel<D, T>, at: usize, pending: Pending) -> Came
     requires runs { Runs kernel.old at }
     requires can { CanWait kernel.old at pending }

@@ -1,4 +1,4 @@
-//! exec: another program in the place of the one that runs.
+//! exec: another program replaces the one that runs.
 ghost use Rattle.std.specs.Prelude.{◌≡◌, Some};
 ghost use Rattle.calls.specs.Acts.{ActsOnDisk, Runs};
 ghost use Rattle.calls.specs.Replaced.{Reaches};
@@ -32,7 +32,7 @@ fn exec_found<D: BlockDev, T: Translate>(
     }
 }
 
-/// exec(path, argv): the program of the file that the path reaches comes in the place of the one that runs, with the
+/// exec(path, argv): the program of the file that the path reaches replaces the one that runs, with the
 /// arguments that argv points at.
 pub(crate) fn exec<D: BlockDev, T: Translate>(
     kernel: &mut Kernel<D, T>,

@@ -25,7 +25,7 @@ fn stat_bytes(number: u32, told: InodeStat) -> [u8; 24]
     bytes
 }
 
-/// fstat(descriptor, address): what the node tells of itself that the descriptor is open on is written at the address.
+/// fstat(descriptor, address): the attributes of the node that the descriptor is open on are written at the address.
 pub(crate) fn fstat<D: BlockDev, T: Translate>(
     kernel: &mut Kernel<D, T>,
     at: usize,

@@ -21,7 +21,7 @@ use kernel::Kernel;
 use sv39::Translate;
 use unixmodel::trap::Trap;
 
-/// So many steps, up to the first at which the machine halts.
+/// Does `count` steps, up to the first at which the machine halts.
 pub fn steps<D: BlockDev, T: Translate, W: Out>(
     kernel: &mut Kernel<D, T>,
     count: u32,
@@ -46,7 +46,7 @@ pub fn steps<D: BlockDev, T: Translate, W: Out>(
     Ok(())
 }
 
-/// The first of so many steps, as many as are done in one go: how many they are, with the one at which the machine
+/// Does the first of `most` steps, as many as are done at once, and returns how many, with the one at which the machine
 /// halts. They are none where no process runs and none is ready.
 pub fn advance<D: BlockDev, T: Translate, W: Out>(
     kernel: &mut Kernel<D, T>,
@@ -66,8 +66,8 @@ pub fn advance<D: BlockDev, T: Translate, W: Out>(
     }
 }
 
-/// Instructions of the running process, at most so many, up to a call or a fault and not over it, and no further than
-/// to the first of some addresses that the pc comes to: how many they are. None are done where no process runs.
+/// Does at most `most` instructions of the running process, up to a call or a fault and not over it, and no further
+/// than to the first of some addresses that the pc comes to. Returns how many: none where no process runs.
 pub fn compute<D: BlockDev, T: Translate>(
     kernel: &mut Kernel<D, T>,
     most: u32,
@@ -142,7 +142,7 @@ fn turn_once<D: BlockDev, T: Translate>(kernel: &mut Kernel<D, T>) -> (u32, Resu
     }
 }
 
-// The step at which the process in a place, which was picked, is taken.
+// The step at which the process in a slot, which was picked, is taken.
 fn take_once<D: BlockDev, T: Translate>(kernel: &mut Kernel<D, T>, at: usize) -> Result<(), Halt>
     requires idle { kernel.old.spaces.active ≡ None }
     requires up { kernel.old.tree.failed ≡ false }

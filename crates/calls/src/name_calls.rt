@@ -15,7 +15,7 @@ use sv39::Translate;
 use tree::{Leaf, TreeFault};
 use unixmodel::call::Call;
 
-// Copies the path in an argument of the call into a buffer, and tells its length.
+// Copies the path in an argument of the call into a buffer, and returns its length.
 pub(crate) fn copy_path<D: BlockDev, T: Translate>(
     kernel: &Kernel<D, T>,
     at: usize,
@@ -31,7 +31,7 @@ pub(crate) fn copy_path<D: BlockDev, T: Translate>(
     kernel.copy_path(at, kernel.argument(place), buffer)
 }
 
-// What a call comes to that made nothing.
+// The result of a call that made nothing.
 pub(crate) fn refuse(fault: TreeFault) -> Result<Came, DeviceFault>
     ensures { IsRefused fault result }
 {
@@ -42,7 +42,7 @@ pub(crate) fn refuse(fault: TreeFault) -> Result<Came, DeviceFault>
     }
 }
 
-// What a call on names comes to.
+// The result of a call on names.
 fn named<D: BlockDev, T: Translate, X>(
     kernel: &Kernel<D, T>,
     made: &Result<X, TreeFault>,
@@ -114,7 +114,7 @@ pub(crate) fn link<D: BlockDev, T: Translate>(
     named(kernel, &made)
 }
 
-/// unlink(path): a name is taken away, and its node too where that has no links any more and nobody holds it.
+/// unlink(path): a name is removed, and its node too where that has no links any more and nobody holds it.
 pub(crate) fn unlink<D: BlockDev, T: Translate>(
     kernel: &mut Kernel<D, T>,
     at: usize,

@@ -1,4 +1,4 @@
-//! The calls that look for what a path names: open, chdir.
+//! The calls that resolve a path: open, chdir.
 ghost use Rattle.std.specs.Prelude.{◌≡◌, ◌≢◌, All, List, None, Some, false, true, ℕ};
 ghost use Rattle.calls.specs.Acts.{ActsOnDisk, Runs};
 ghost use Rattle.calls.specs.Opened.{Asks, Cuts, IsOpenable, Opens, file_by, has_seat, may_open_by, target_by};
@@ -22,7 +22,7 @@ use unixmodel::call::Call;
 // The major of the console.
 const CONSOLE: u16 = 1;
 
-// What a new file tells.
+// The attributes of a new file.
 const NEW_FILE: InodeStat = InodeStat {
     kind: FILE,
     major: 0,
@@ -79,7 +79,7 @@ fn opened(flags: u32, target: Target) -> OpenFile
     }
 }
 
-// Whether a descriptor of the process in a place and a place for an open file are free.
+// Whether a descriptor of the process in a slot and a slot for an open file are free.
 fn has_seat<D: BlockDev, T: Translate>(kernel: &Kernel<D, T>, at: usize) -> bool
     ensures { result ≡ has_seat kernel.now at }
 {
@@ -90,7 +90,7 @@ fn has_seat<D: BlockDev, T: Translate>(kernel: &Kernel<D, T>, at: usize) -> bool
     }
 }
 
-// A new open file is on a node, and the lowest free descriptor names it.
+// Opens a node as a new open file, which the lowest free descriptor names.
 fn open_on<D: BlockDev, T: Translate>(
     kernel: &mut Kernel<D, T>,
     at: usize,
@@ -110,7 +110,7 @@ fn open_on<D: BlockDev, T: Translate>(
     descriptor
 }
 
-// A file is emptied, if the flags ask for it.
+// Empties a file, if the flags say so.
 fn cut<D: BlockDev, T: Translate>(
     kernel: &mut Kernel<D, T>,
     number: usize,
@@ -150,7 +150,7 @@ fn open_found<D: BlockDev, T: Translate>(
     Ok(Came::Answers(descriptor as u64))
 }
 
-// open of a path that reaches nothing: a new file, if the flags ask for one.
+// open of a path that reaches nothing: makes a new file, if the flags say so.
 fn open_new<D: BlockDev, T: Translate>(
     kernel: &mut Kernel<D, T>,
     at: usize,
@@ -179,7 +179,7 @@ fn open_new<D: BlockDev, T: Translate>(
     }
 }
 
-/// open(path, flags): the lowest free descriptor names a new open file on what the path reaches, and is the answer. Bit
+/// open(path, flags): the lowest free descriptor names a new open file on what the path reaches, and is the result. Bit
 /// 9 of the flags makes a file where the path reaches nothing, and bit 10 empties a file.
 pub(crate) fn open<D: BlockDev, T: Translate>(
     kernel: &mut Kernel<D, T>,

@@ -1,4 +1,4 @@
-//! What a call came to, and how that is settled.
+//! How a call ended, and how that is settled.
 ghost use Rattle.std.specs.Prelude.{false, ◌≡◌, OnErr, OnOk, Some};
 ghost use Rattle.calls.specs.Acts.{CanCome, IsEnd, pending_for, settled_by};
 ghost use Rattle.kernel.specs.Disk.{LeavesDisk};
@@ -16,10 +16,10 @@ pub const REFUSED: u64 = u64::MAX;
 /// The status of a process that kill or a fault ended.
 pub const KILLED: i32 = -1;
 
-/// What a call has come to, once all is done but this.
+/// How a call ended: what is left to do.
 #[derive(Clone, Copy)]
 pub enum Came {
-    /// It is answered with this in a0.
+    /// It returns this in a0.
     Answers(u64),
     /// It is refused, with -1 in a0.
     Refuses,
@@ -27,11 +27,11 @@ pub enum Came {
     Blocks(Pending),
     /// The process ends with this status.
     Exits(i32),
-    /// The process has killed itself: it is answered with 0, and ends.
+    /// The process has killed itself: the call returns 0, and the process ends.
     KillsItself,
 }
 
-/// The call that the process in place `at` makes, as it begins to wait.
+/// The call that the process in slot `at` makes, as it begins to wait.
 pub(crate) fn pending<D: BlockDev, T: Translate>(kernel: &Kernel<D, T>, number: Call) -> Pending
     ensures { result ≡ pending_for kernel.now number }
 {
@@ -43,7 +43,7 @@ pub(crate) fn pending<D: BlockDev, T: Translate>(kernel: &Kernel<D, T>, number: 
     }
 }
 
-/// A call of the running process is done. Where an access of the device fails, a process ended.
+/// Settles a call of the running process. It fails only where a process ended, if an access of the device fails.
 #[inline(always)]
 pub(crate) fn settle<D: BlockDev, T: Translate>(
     kernel: &mut Kernel<D, T>,

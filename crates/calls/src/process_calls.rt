@@ -41,7 +41,7 @@ fn write_status<D: BlockDev, T: Translate>(
     }
 }
 
-/// fork(): a child that is ready, with the same pages, descriptors and directory, to which it answers 0.
+/// fork(): makes a child that is ready, with the same pages, descriptors and directory, in which the call returns 0.
 pub(crate) fn fork<D: BlockDev, T: Translate>(kernel: &mut Kernel<D, T>, at: usize) -> Came
     requires { Runs kernel.old at }
     ensures { Acts kernel.old kernel.new at (Some Call.Fork) result }
@@ -64,8 +64,8 @@ pub(crate) fn exit<D: BlockDev, T: Translate>(kernel: &Kernel<D, T>, at: usize) 
     Came::Exits(int(kernel.argument(0)))
 }
 
-/// wait(address): waits for a zombie child, whose status is written at the address, unless that is 0, and whose pid is
-/// the answer.
+/// wait(address): collects a zombie child, whose status is written at the address, unless that is 0, and whose pid is
+/// the result.
 pub(crate) fn wait<D: BlockDev, T: Translate>(kernel: &mut Kernel<D, T>, at: usize) -> Came
     requires { Runs kernel.old at }
     ensures { Acts kernel.old kernel.new at (Some Call.Wait) result }
@@ -98,7 +98,7 @@ pub(crate) fn wait_on<D: BlockDev, T: Translate>(
     Came::Answers(u64::from(reaped.pid))
 }
 
-// The place of the process that an argument names by its pid.
+// The slot of the process that an argument names by its pid.
 fn place_called<D: BlockDev, T: Translate>(kernel: &Kernel<D, T>, argument: u64) -> Option<usize>
     ensures { result ≡ place_called kernel.now.table.places (natural (int_of argument)) }
 {
@@ -159,8 +159,8 @@ fn shrink<D: BlockDev, T: Translate>(kernel: &mut Kernel<D, T>, at: usize, bytes
     Came::Answers(old)
 }
 
-/// sbrk(bytes): the size changes by so many bytes, unless that leaves one below 0 or the frames don't suffice, and the
-/// old one is the answer.
+/// sbrk(bytes): the size changes by `bytes` bytes, unless that leaves one below 0 or the frames don't suffice, and the
+/// old one is the result.
 pub(crate) fn sbrk<D: BlockDev, T: Translate>(kernel: &mut Kernel<D, T>, at: usize) -> Came
     requires { Runs kernel.old at }
     ensures { Acts kernel.old kernel.new at (Some Call.Sbrk) result }
@@ -176,7 +176,7 @@ pub(crate) fn sbrk<D: BlockDev, T: Translate>(kernel: &mut Kernel<D, T>, at: usi
     shrink(kernel, at, bytes)
 }
 
-/// sleep(ticks): waits until so many ticks have passed.
+/// sleep(ticks): waits until that many ticks have passed.
 pub(crate) fn sleep<D: BlockDev, T: Translate>(kernel: &Kernel<D, T>, at: usize) -> Came
     requires { Runs kernel.now at }
     ensures { Acts kernel.now kernel.now at (Some Call.Sleep) result }

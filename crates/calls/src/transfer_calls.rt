@@ -1,4 +1,4 @@
-//! The calls read and write, and how they go on. Which of them it is goes by the end of a pipe that it would use.
+//! The calls read and write, and how they go on. They are told apart by the end of a pipe that each would use.
 ghost use Rattle.std.specs.Prelude.{◌<◌, ◌≡◌, ◌≤◌, IfErr, IfOk, OnErr, OnOk, Some, is_some, length, true};
 ghost use Rattle.std.specs.Prelude.{if◌then◌else◌, ◌==◌};
 ghost use Rattle.std.specs.Io.KnownBytes.{Appends};
@@ -42,7 +42,7 @@ fn call_on(end: End) -> Call
     }
 }
 
-// What the open file that a descriptor of the process in a place names is open on.
+// What the open file that a descriptor of the process in a slot names is open on.
 fn open_target<D: BlockDev, T: Translate>(
     kernel: &Kernel<D, T>,
     at: usize,
@@ -85,7 +85,7 @@ fn target_for<D: BlockDev, T: Translate>(
     }
 }
 
-// Whether the running process may transfer so many bytes: a read writes them, and a write reads them.
+// Whether the running process may transfer `count` bytes: a read writes them, and a write reads them.
 #[inline(always)]
 fn can_transfer<D: BlockDev, T: Translate>(
     kernel: &Kernel<D, T>,
@@ -103,7 +103,7 @@ fn can_transfer<D: BlockDev, T: Translate>(
     }
 }
 
-// A read or a write begins: its arguments are tested. `Err`: it goes on with nothing, and comes to this.
+// A read or a write begins: its arguments are tested. `Err`: it has nothing to go on with, and ends so.
 #[inline(always)]
 fn begin_transfer<D: BlockDev, T: Translate>(
     kernel: &Kernel<D, T>,
@@ -186,7 +186,7 @@ fn read_from<D: BlockDev, T: Translate>(
     }
 }
 
-// From a file or a directory: the process takes what there is from the offset on, which goes on behind it.
+// From a file or a directory: the process takes what there is from the offset on, which then lies after it.
 fn read_file<D: BlockDev, T: Translate>(
     kernel: &mut Kernel<D, T>,
     at: usize,
@@ -263,7 +263,7 @@ fn read_pipe<D: BlockDev, T: Translate>(
 
 // ---- write
 
-// The next bytes to put out: at most so many, and at least one.
+// The next bytes to print: at most `most`, and at least one.
 fn piece<D: BlockDev, T: Translate>(
     kernel: &Kernel<D, T>,
     at: usize,
@@ -286,7 +286,7 @@ fn piece<D: BlockDev, T: Translate>(
     }
 }
 
-// Puts out so many bytes of the running process, a page at a time.
+// Prints `count` bytes of the running process, a page at a time.
 fn print<D: BlockDev, T: Translate, W: Out>(
     kernel: &Kernel<D, T>,
     at: usize,
@@ -332,7 +332,7 @@ pub(crate) fn write<D: BlockDev, T: Translate, W: Out>(
     }
 }
 
-// A write begins, to what is open there: to the console it puts out all of its bytes.
+// A write begins, to what is open there: to the console it prints all of its bytes.
 fn write_to<D: BlockDev, T: Translate, W: Out>(
     kernel: &mut Kernel<D, T>,
     at: usize,
@@ -358,15 +358,15 @@ fn write_to<D: BlockDev, T: Translate, W: Out>(
     }
 }
 
-// The answer of a write to a file: -1 where some of its bytes are left.
+// The result of a write to a file: -1 where some of its bytes are left.
 fn write_answer(wrote: u64, count: u64) -> u64
     ensures { result ≡ (if wrote == count then wrote else minus_one) }
 {
     if wrote == count { wrote } else { REFUSED }
 }
 
-// To a file: as many of its bytes go as there are blocks for, and the offset goes on behind them; it answers -1 where
-// some are left.
+// To a file: as many of its bytes are written as there are blocks for, and the offset then lies after them; it returns
+// -1 where some are left.
 fn write_file<D: BlockDev, T: Translate>(
     kernel: &mut Kernel<D, T>,
     at: usize,
@@ -415,7 +415,7 @@ pub(crate) fn write_on<D: BlockDev, T: Translate>(
     }
 }
 
-// To a pipe: what fits of its bytes is put in, and the process waits while some are left. Without a read end it answers
+// To a pipe: what fits of its bytes is put in, and the process waits while some are left. Without a read end it returns
 // -1.
 #[inline(always)]
 fn write_pipe<D: BlockDev, T: Translate>(

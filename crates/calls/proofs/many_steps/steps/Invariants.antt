@@ -1,7 +1,7 @@
 use Rattle.calls.proofs.Common.{Went, ◌-◌, ◌≤◌}
 use Rattle.calls.proofs.many_steps.steps.Given as goal
 
--- so many steps are done as the model says
+-- `done` steps are done as the model says
 abbrev pub invariant-loop-done : goal.invariant-loop-done
 invariant-loop-done g l = record {
   within : l.done ≤ l.count;

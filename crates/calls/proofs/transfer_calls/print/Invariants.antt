@@ -1,7 +1,7 @@
 use Rattle.calls.proofs.Common.{Appends, Load, reach, take, view_at, ◌-◌, ◌≤◌}
 use Rattle.calls.proofs.transfer_calls.print.Given as goal
 
--- the bytes so far are put out
+-- the bytes so far are printed
 abbrev pub invariant-loop-done : goal.invariant-loop-done
 invariant-loop-done g l = record {
   within : l.done ≤ l.count;
