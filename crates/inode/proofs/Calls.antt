@@ -1,4 +1,4 @@
--- What steps of a disk say of a volume's nodes.
+-- What steps of a disk mean for a volume's nodes.
 use Rattle.inode.proofs.Common.{◌≡◌, ◌∙◌, ℕ, Bool, List, None, Option, Some, ap, arith, inl, inr, length, refl, subst}
 use Rattle.inode.proofs.Common.{sym, IsSome, false≢true, ◌⊎◌, unwrap_or, cases_eq, cases_lt, get_or_past, Disk, node_in}
 use Rattle.inode.proofs.Common.{IsNode, IsWhole, no_node, Blocks, raw_at, store_over, used_by, Geometry, IsInode}
@@ -93,7 +93,7 @@ module _ {blocks : Blocks} {inodes n : ℕ} (used : IsInode blocks inodes n) whe
       → IsReadInto raw.bytes at old new k
   read-raw {at} {old} {new} k = of-raw (λ raw. IsReadInto raw.bytes at old new k)
 
-  -- a node without bytes
+  -- a node without bytes has size 0
   pub empty-raw : length raw.bytes ≡ 0 → (inode_at blocks n).size ≡ 0
   empty-raw e = sym (length-bytes_of blocks n) ∙ of-raw (λ raw. length (bytes_of blocks n) ≡ length raw.bytes) refl ∙ e
 
@@ -117,7 +117,7 @@ whole-sound {D} {g} {disk} sound = record {
   back : {o : Option RawNode} {x y : RawNode} → o ≡ Some x → o ≡ Some y → x ≡ y
   back e f = cc
 
--- ---- what is asked of a volume is so of its disk
+-- ---- what holds of a volume is so of its disk
 
 module _ {D : Type 0} {s seen : Store D} (is : s ≡ seen) where
   pub up-inside : seen.failed ≡ false → s.failed ≡ false
@@ -155,7 +155,7 @@ abbrev Names : {D : Type 0} → Geometry → Disk D → Disk D → Bool → Bool
 Names g d d' f b n node = Changes (store_over g d f) (store_over g d' b) n node
 
 module _ {D : Type 0} {g : Geometry} {d d' : Disk D} {f b : Bool} {n : ℕ} where
-  -- the node takes as many blocks as before
+  -- the node takes as many blocks as it did
   pub changes-sets : {node shown : Option RawNode} → SetsNode g d.blocks d'.blocks n node → node ≡ shown
       → used_by shown ≡ used_by (slot (nodes_of d.blocks g.inodes) n) → Names g d d' f b n shown
   changes-sets sets is used = record {
@@ -198,14 +198,14 @@ module _ {D : Type 0} {g : Geometry} {d d' : Disk D} {f b : Bool} {n : ℕ} wher
         changes-sets sets (ap (λ raw. Some (with_links raw links)) (sym (raw-inode inode)))
         (ap (λ (raw : RawNode). taken_for (length raw.bytes)) (raw-inode inode) ∙ sym (used-inode inode))
 
-    -- none any more
+    -- no node any more
     pub changes-given : length (raw_at (nodes_of d.blocks g.inodes) n).bytes ≡ 0 → SetsNode g d.blocks d'.blocks n None
         → Names g d d' f b n None
     changes-given empty sets =
         changes-sets sets refl (ap taken_for (sym empty)
         ∙ ap (λ (raw : RawNode). taken_for (length raw.bytes)) (raw-inode inode) ∙ sym (used-inode inode))
 
-  -- a node more
+  -- one more node
   pub changes-taken : (kind : Kind) {links : ℕ} → slot (nodes_of d.blocks g.inodes) n ≡ None
       → TakesNode g d.blocks d'.blocks n kind links → Names g d d' f b n (fresh_node kind links)
   changes-taken kind {links} free takes = changes-sets takes.sets refl (used-fresh kind links ∙ sym (ap used_by free))
@@ -241,7 +241,7 @@ module _ {D : Type 0} (g : Geometry) (d d' : Disk D) (f b : Bool) where
   writes-from n at bytes inode (Written k) wrote =
       (of-raw inode (λ raw. at ≤ length raw.bytes) wrote.0, wrote.1, writes-some inode k wrote.2)
 
--- the disk is sound still
+-- the disk is still sound
 module _ {g : Geometry} {old new : Blocks} where
   pub takes-sound : (kind : Kind) (links : ℕ) → IsSound g old → (o : Option ℕ) → TakesInode g old new kind links o
       → IsSound g new
@@ -383,7 +383,7 @@ module _ {D : Type 0} {identity : D → List ℕ} where
           cause = λ q. absurd (false≢true (sym known ∙ q));
         }
 
-    -- a call behind others failed
+    -- a call after others failed
     pub serves-lost : {mid : Store D} {U : Type 0} {Was : U → Type 0} {r : Result U DeviceFault} {e : DeviceFault}
         {s : Result T E} (fault : E) → Follows identity old mid → Tries identity mid new r Was → r ≡ Err e
         → is_lost fault ≡ true → IsErrAnd s (λ f. f ≡ fault) → Serves identity is_lost old new s Done Why
@@ -399,7 +399,7 @@ module _ {D : Type 0} {identity : D → List ℕ} where
           cause = λ _. rises;
         })
 
-  -- the last call tells all
+  -- the last call has the result of all
   pub tries-last : {T : Type 0} {old mid new : Store D} {r : Result T DeviceFault} {Was Done : T → Type 0}
       → Follows identity old mid → ((x : T) → Was x → Done x) → Tries identity mid new r Was
       → Tries identity old new r Done

@@ -1,4 +1,4 @@
--- The names that the lemmas of this crate import from elsewhere, passed on from one place. Declares nothing.
+-- The names from elsewhere that the lemmas of this crate import, in one file. Declares nothing.
 pub use Rattle.std.proofs.Common.{◌%◌, ◌*◌, ◌+◌, ◌++◌, ◌-◌, ◌/◌, ◌<◌, ◌==◌, [], ◌^◌, ap, arith, Bool, cond, drop, Err}
 pub use Rattle.std.proofs.Common.{false, get_or, inl, inr, le_of_lt, length, List, max, min, None, Ok, Option, refl}
 pub use Rattle.std.proofs.Common.{replicate, Result, set, Some, subst, sym, take, true, ℕ, ◌∙◌, ◌≡◌, ◌≢◌, ◌≤◌, ◌⊎◌}

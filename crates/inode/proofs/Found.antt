@@ -1,4 +1,4 @@
--- Where a byte of a file stands, as its record tells it, and another size of it.
+-- Where a byte of a file lies, by its record, and another size of it.
 use Rattle.inode.proofs.Common.{◌≡◌, ℕ, ◌+◌, ◌-◌, ◌*◌, ◌/◌, ◌%◌, ◌^◌, ◌<◌, ◌≤◌, false, true, List, drop, length, get_or}
 use Rattle.inode.proofs.Common.{min, set, ap, sym, subst, ◌∙◌, arith, refl, get_or-drop, nat_tests, block_at, part}
 use Rattle.inode.proofs.Common.{splice, little_number, number_at, in_record, address_of, place_of, holder_of, record_in}
@@ -19,7 +19,7 @@ use Rattle.layout.proofs.ReadsBack.{get_or-numbers_in, length-numbers_in, number
 use Rattle.unixmodel.specs.Slots as place
 use Rattle.layout.proofs.GrowLemmas.{WritesInode-part}
 
--- ---- the first slots stand in the record, and those behind them in the single index block
+-- ---- the first slots lie in the record, and those after them in the single index block
 
 own : (k : ℕ) → k < 11 → in_record k ≡ true
 unfolding place.in_record
@@ -79,7 +79,7 @@ module _ (blocks : Blocks) (bytes : List ℕ) (slot : ℕ) where
     listed-number = found_in blocks (inode_of bytes) slot (listed slot low high) holder-number
         (sym (listed_at slot high))
 
--- bytes spell what has a spelling
+-- the fields of bytes fit their widths
 pub fits-of : (bytes : List ℕ) → ((i : ℕ) → get_or bytes i 0 < 2 ^ 8) → Fits (inode_of bytes)
 fits-of bytes are = record {
   kind = little_from-lt 0 2 bytes (λ i. (omega (arith, are i)));
@@ -174,7 +174,7 @@ module _ {g : Geometry} {old : Blocks} {n at : ℕ} {found : Found} (sound : IsS
 
 -- ---- the size of a record is written, and nothing else of it
 
--- a number of a record, by its place in the block
+-- a number of a record, by its offset in the block
 number-placed : (w k at : ℕ) (block : List ℕ) → k + w ≤ 64
     → little_number w (drop k (part at 64 block)) ≡ little_number w (part (at + k) w block)
 number-placed w k at block fits =
@@ -186,7 +186,7 @@ number-placed w k at block fits =
     ∙ sym (little_from-take 0 w w (drop (at + k) block) (omega arith))
 
 module _ (at s : ℕ) (block : List ℕ) (room : at + 64 ≤ length block) where
-  -- one beside the size is as before
+  -- a number beside the size is the old one
   number-beside : (w k : ℕ) → (k + w ≤ 8) ⊎ (12 ≤ k) → k + w ≤ 64
       → little_number w (drop k (part at 64 (splice (at + 8) (little_bytes 4 s) block)))
       ≡ little_number w (drop k (part at 64 block))

@@ -10,7 +10,7 @@ use Rattle.layout.specs.Sound.{HasParts}
 abbrev pub IsOwn : ℕ → ℕ → Type 0
 IsOwn size j = Asks size j
 
--- the blocks in the slots P of n, so many, are free now, and all else is as before
+-- the blocks in the slots P of n, `count` of them, are free now, and all else is as it was
 pub record Freed (g : Geometry) (old mid : List (List ℕ)) (n : ℕ) (P : ℕ → Type 0) (count : ℕ) : Type 0 where
   pub parts : HasParts g mid
   pub front : (k : ℕ) → k < bitmap_start_of g.inodes → block_at mid k ≡ block_at old k

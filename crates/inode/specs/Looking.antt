@@ -1,4 +1,4 @@
--- What an inode tells of itself.
+-- The attributes of an inode, as `stat` returns them.
 use Rattle.std.specs.Prelude.{◌≡◌, ℕ, List, None, Option, Some, length, ⊤}
 use Rattle.inode.specs.declared.InodeStat.{InodeStat}
 use Rattle.layout.specs.declared.DiskInode.{DiskInode}
@@ -14,7 +14,7 @@ told inode = record {
   size = inode.size;
 }
 
--- this is told of a node
+-- these are the attributes of a node
 pub record IsTold (node : RawNode) (s : InodeStat) : Type 0 where
   pub kind : s.kind ≡ kind_number node.kind
   pub major : s.major ≡ kind_major node.kind
@@ -25,12 +25,12 @@ pub record IsTold (node : RawNode) (s : InodeStat) : Type 0 where
 abbrev pub node_in : List (List ℕ) → ℕ → RawNode
 node_in blocks n = node_with (inode_at blocks n) (bytes_of blocks n)
 
--- and of any number, which an inode in use may have or not
+-- the attributes of any number, which an inode in use may have or not
 abbrev pub Tells : List (List ℕ) → ℕ → ℕ → Option InodeStat → Type 0
 Tells blocks inodes n None = IsInode blocks inodes n → ⊥
 Tells blocks inodes n (Some s) = IsInode blocks inodes n × IsTold (node_in blocks n) s
 
--- of what a number names, if it names anything
+-- the attributes of the node of a number, if there is one
 abbrev pub TellsAny : Option RawNode → Option InodeStat → Type 0
 TellsAny None None = ⊤
 TellsAny None (Some s) = ⊥

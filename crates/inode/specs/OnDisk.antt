@@ -1,4 +1,4 @@
--- The record of an inode, as it stands on a disk.
+-- The record of an inode, as it lies on a disk.
 use Rattle.std.specs.Prelude.{◌≡◌, ℕ, List}
 use Rattle.layout.specs.declared.DiskInode.{DiskInode}
 use Rattle.layout.specs.declared.Geometry.{Geometry}
@@ -11,7 +11,7 @@ pub record HasInode (g : Geometry) (blocks : List (List ℕ)) (n : ℕ) (inode :
   pub used : IsInode blocks g.inodes n
   pub same : inode ≡ inode_at blocks n
 
--- the same, as functions hand it on to one another: no search looks into it
+-- the same, as functions pass it on to one another: no search looks into it
 unfoldable pub IsInHand : Geometry → List (List ℕ) → ℕ → DiskInode → Type 0
 IsInHand g blocks n inode = HasInode g blocks n inode
 

@@ -21,14 +21,14 @@ use Rattle.unixmodel.specs.Files.{longest, slot}
 
 pub record Store (D : Type 0) : Type 0 where
   pub geometry : Geometry
-  -- what each number names
+  -- the node of each number
   pub nodes : List (Option RawNode)
   -- how many data blocks are free
   pub free : ℕ
   pub device : D
   -- how often an access of the device has failed
   pub failures : ℕ
-  -- one has: nothing is promised of the nodes any more
+  -- an access has failed: nothing is promised of the nodes any more
   pub failed : Bool
 
 abbrev pub store_over : {D : Type 0} → Geometry → Disk D → Bool → Store D
@@ -60,7 +60,7 @@ pub record IsWhole {D : Type 0} (s : Store D) : Type 0 where
   pub most : s.geometry.inodes ≤ 8192
   pub each : (n : ℕ) (node : RawNode) → slot s.nodes n ≡ Some node → IsNode n node
 
--- ---- what calls answer
+-- ---- what calls return
 
 -- the numbers are as they were, and the device is the same
 pub record Follows {D : Type 0} (identity : D → List ℕ) (old new : Store D) : Type 0 where
@@ -72,8 +72,8 @@ abbrev pub has_failed : {T E : Type 0} → (E → Bool) → Result T E → Bool
 has_failed is_lost (Ok x) = false
 has_failed is_lost (Err fault) = is_lost fault
 
--- Where no access fails it is done, or refused, which says why. A failure of an access is told by a fault of its own,
--- and only where the device counts it.
+-- Where no access fails it is done, or refused, which says why. A failure of an access is returned as a fault of its
+-- own, and only where the device counts it.
 pub record Serves {D T E : Type 0} (identity : D → List ℕ) (is_lost : E → Bool) (old new : Store D)
     (result : Result T E) (Done : T → Type 0) (Why : E → Type 0) : Type 0 where
   pub done : IfOk result Done
@@ -82,7 +82,7 @@ pub record Serves {D T E : Type 0} (identity : D → List ℕ) (is_lost : E → 
   pub failed : new.failed ≡ has_failed is_lost result
   pub cause : has_failed is_lost result ≡ true → Rises old.failures new.failures
 
--- nothing but the device can stand in its way
+-- it is refused only where the device fails
 abbrev pub Tries : {D T : Type 0} → (D → List ℕ) → Store D → Store D → Result T DeviceFault → (T → Type 0) → Type 0
 Tries identity old new result Done = Serves identity (λ _. true) old new result Done (λ _. ⊤)
 
@@ -91,7 +91,7 @@ pub record Keeps {D : Type 0} (old new : Store D) : Type 0 where
   pub nodes : new.nodes ≡ old.nodes
   pub free : new.free ≡ old.free
 
--- this is told, and nothing is changed
+-- the result's condition holds, and nothing is changed
 abbrev pub Looks : {D T : Type 0} → (D → List ℕ) → Store D → Store D → Result T DeviceFault → (T → Type 0) → Type 0
 Looks identity old new result Told = Tries identity old new result (λ x. Keeps old new × Told x)
 
@@ -102,13 +102,13 @@ abbrev pub used_by : Option RawNode → ℕ
 used_by None = 0
 used_by (Some node) = taken_for (length node.bytes)
 
--- number n names this node now, or none; all others stay, and what it takes isn't free
+-- this is the node of number n now, if there is one; all others stay, and the blocks that it takes aren't free
 pub record Changes {D : Type 0} (old new : Store D) (n : ℕ) (node : Option RawNode) : Type 0 where
   pub whole : IsWhole new
   pub nodes : new.nodes ≡ slice_set old.nodes n node
   pub free : new.free + used_by node ≡ old.free + used_by (slot old.nodes n)
 
--- the node of a number that names one
+-- the node of a number that has one
 abbrev pub no_node : RawNode
 no_node = record { kind = Free; links = 0; bytes = [] }
 
@@ -122,20 +122,20 @@ with_bytes node bytes = record node { bytes = bytes }
 abbrev pub IsEmptied : {D : Type 0} → Store D → Store D → ℕ → Type 0
 IsEmptied old new n = Changes old new n (Some (with_bytes (raw_at old.nodes n) []))
 
--- a node has so many links
+-- a node has `links` links
 abbrev pub HasLinks : {D : Type 0} → Store D → Store D → ℕ → ℕ → Type 0
 HasLinks old new n links = Changes old new n (Some (with_links (raw_at old.nodes n) links))
 
--- ---- a node more
+-- ---- one more node
 
--- n is the lowest number that names none
+-- n is the lowest number without a node
 pub record IsLowestFree (nodes : List (Option RawNode)) (n : ℕ) : Type 0 where
   pub low : 1 ≤ n
   pub high : n < length nodes
   pub free : slot nodes n ≡ None
   pub lowest : (m : ℕ) → 1 ≤ m → m < n → slot nodes m ≢ None
 
--- the lowest number that names none gets a node without bytes, or each names one and nothing is changed
+-- the lowest number without a node gets a node without bytes, or each has one and nothing is changed
 abbrev pub TakesLowest : {D : Type 0} → Store D → Store D → Kind → ℕ → Option ℕ → Type 0
 TakesLowest old new kind links (Some n) = IsLowestFree old.nodes n × Changes old new n (fresh_node kind links)
 TakesLowest old new kind links None = Keeps old new × ((n : ℕ) → 1 ≤ n → n < length old.nodes → slot old.nodes n ≢ None)
@@ -146,7 +146,7 @@ abbrev pub is_device : InodeFault → Bool
 is_device Device = true
 is_device _ = false
 
--- the bytes stand in node n from this place on
+-- the bytes are written to node n from offset `at` on
 pub record Writes {D : Type 0} (old new : Store D) (n at : ℕ) (bytes : List ℕ) : Type 0 where
   pub within : at ≤ length (raw_at old.nodes n).bytes
   pub short : at + length bytes ≤ longest
@@ -168,7 +168,7 @@ pub record WritesSome {D : Type 0} (old new : Store D) (n at : ℕ) (bytes : Lis
       (Some (with_bytes (raw_at old.nodes n) (splice at (take k bytes) (raw_at old.nodes n).bytes)))
   pub few : k < length bytes → LacksAt old.free (raw_at old.nodes n).bytes (at + k)
 
--- what comes of these bytes, which are to stand in node n from a place on
+-- the outcome of a write of these bytes to node n from offset `at` on
 abbrev pub WritesFrom : {D : Type 0} → Store D → Store D → ℕ → ℕ → List ℕ → Outcome → Type 0
 WritesFrom old new n at bytes outcome.PastEnd = Keeps old new × (length (raw_at old.nodes n).bytes < at)
 WritesFrom old new n at bytes outcome.TooLong = Keeps old new × (at ≤ length (raw_at old.nodes n).bytes)

@@ -1,4 +1,4 @@
-//! Where a byte of a file stands, as the blocks that were used last tell it: nothing is read and nothing copied for it.
+//! Where a byte of a file lies, by the blocks that were used last: nothing is read and nothing copied for it.
 
 ghost use Rattle.std.specs.Prelude.{◌≡◌, ◌+◌, ◌*◌, ◌/◌, ◌%◌, ◌<◌, IfSome, length};
 ghost use Rattle.blockdev.specs.Blocks.{AreBlocks, block_at};
@@ -13,7 +13,7 @@ use blockdev::BlockDev;
 use cache::Cache;
 use layout::{DIRECT, DiskInode, Geometry, read_number};
 
-/// The block that a byte of a file stands in.
+/// The block that a byte of a file lies in.
 #[derive(Clone, Copy)]
 pub struct Found {
     /// How many bytes the file has.
@@ -60,7 +60,7 @@ fn number_of<D: BlockDev>(disk: &Cache<D>, bytes: &[u8], slot: usize) -> Option<
     Some(read_number(index, slot - DIRECT) as usize)
 }
 
-/// The block that byte `at` of a file stands in, up to the end of its last block. `None` tells nothing.
+/// The block that byte `at` of a file lies in, up to the end of its last block. `None` says nothing.
 #[inline(always)]
 pub fn find<D: BlockDev>(
     disk: &Cache<D>,

@@ -78,8 +78,8 @@ impl<D: BlockDev> Volume<D> {
         let _failed = self.failed;
     }
 
-    /// Gives up the files for their device, which gets what it lacks first. Where an access fails it isn't told what
-    /// the device has.
+    /// Flushes pending writes, and gives up the files for their device. Where an access fails, the content of the
+    /// device is not known.
     pub fn into_device(self) -> (D, Result<(), DeviceFault>)
         requires up { self.failed ≡ false }
         ensures { Flushed D.content D.failures D.identity self result.0 result.1 }
@@ -89,7 +89,7 @@ impl<D: BlockDev> Volume<D> {
         (disk.into_device(), flushed)
     }
 
-    /// Type, major number, number of links and size of what a number names; `None` where it names nothing.
+    /// Type, major number, number of links and size of the node with a number; `None` where there is none.
     pub fn look(&mut self, number: usize) -> Result<Option<InodeStat>, DeviceFault>
         requires up { self.old.failed ≡ false }
         ensures { Looks D.identity self.old self.new result (TellsAny (slot self.old.nodes number)) }
@@ -110,7 +110,7 @@ impl<D: BlockDev> Volume<D> {
         result
     }
 
-    /// Reads bytes of a node from the place `at` on into `out`, as many as there are, and tells how many.
+    /// Reads bytes of a node from offset `at` on into `out`, as many as there are, and returns how many.
     pub fn read_at(
         &mut self,
         number: usize,
@@ -127,7 +127,7 @@ impl<D: BlockDev> Volume<D> {
         result
     }
 
-    /// Whether at least so many data blocks are free.
+    /// Whether at least `wanted` data blocks are free.
     pub fn has_blocks(&mut self, wanted: usize) -> Result<bool, DeviceFault>
         requires up { self.old.failed ≡ false }
         ensures { Looks D.identity self.old self.new result (λ enough. enough ≡ nat_le wanted self.old.free) }
@@ -137,8 +137,8 @@ impl<D: BlockDev> Volume<D> {
         result
     }
 
-    /// Writes bytes of a node from the place `at` on. `PastEnd` comes exactly where `at` is past its end, and else
-    /// `TooLong` exactly where it would have more than `LONGEST` bytes. `Blocks` tells how many bytes are written: the
+    /// Writes bytes of a node from offset `at` on. Returns `PastEnd` exactly where `at` is past its end, and else
+    /// `TooLong` exactly where it would have more than `LONGEST` bytes. `Blocks` says how many bytes are written: the
     /// next one needs more blocks than are free.
     pub fn write_at(&mut self, number: usize, at: usize, bytes: &[u8]) -> Result<(), InodeFault>
         requires up { self.old.failed ≡ false }
@@ -157,7 +157,7 @@ impl<D: BlockDev> Volume<D> {
         Ok(())
     }
 
-    // Writes bytes of a node from a place on, as many as there are blocks for, and tells what comes of it.
+    // Writes bytes of a node from offset `at` on, as many as there are blocks for, and returns the outcome.
     fn try_writing(
         &mut self,
         number: usize,
@@ -195,7 +195,7 @@ impl<D: BlockDev> Volume<D> {
         result
     }
 
-    /// Takes the lowest free number for a node without bytes of this kind and number of links. `None` comes exactly
+    /// Takes the lowest free number for a node without bytes of this kind and number of links. Returns `None` exactly
     /// where none is free, and nothing is changed then.
     pub fn take(&mut self, kind: Kind, links: u16) -> Result<Option<usize>, DeviceFault>
         requires up { self.old.failed ≡ false }

@@ -23,7 +23,7 @@ returns-in_err-write_inside g c =
 pub returns-then-index-held : goal.returns-then-index-held
 returns-then-index-held g c = step-done c.write_inside.ensures.goes c.in_ok-write_inside.ensures.done
 
--- ---- in a block more
+-- ---- in one more block
 
 pub grow-requires : goal.grow-requires
 grow-requires g c = record {
