@@ -1,4 +1,4 @@
--- A page comes to a space: its frame is one that the space is counted to hold already, a new one or a shared one.
+-- A page is added to a space: its frame is one that the space is counted to hold already, a new one or a shared one.
 use Rattle.vm.proofs.Common.{Ram, [], add-one, Adds, among, among_first, ap, arith, cases_eq, count-cases, count_of}
 use Rattle.vm.proofs.Common.{count_of-append, count_of-first, count_of-other, distinct-count, false, frame_at, frame_of}
 use Rattle.vm.proofs.Common.{Frames, frames_below, frames_for, free-holders, free_count, free_of, further-free}
@@ -18,7 +18,7 @@ use Rattle.vm.proofs.DenseLemmas.{marks_at-is, missing-next, page-held, pages_be
 use Rattle.vm.proofs.DenseLemmas.{read_below-same, table-held, frame_at-same, held-not_free, lookup-parts}
 use Rattle.vm.proofs.DenseLemmas.{marks_at-same, cases_root, paged-same}
 
--- the space before, beside whoever else holds the page's frame
+-- the old space, beside whoever else holds the page's frame
 pub record IsBefore (z : Ram) (r t n f marks : ℕ) (q : Frames) : Type 0 where
   pub space : OwnsFrames z r t n q
   pub small : n < 32768
@@ -26,7 +26,7 @@ pub record IsBefore (z : Ram) (r t n f marks : ℕ) (q : Frames) : Type 0 where
   pub absent : count_of f (held z r t n) ≡ 0
   pub sole : is_open marks ≡ true → further_at q f ≡ 0
 
--- pages below n stay mapped, page n has frame f, and the tables that it needs come
+-- pages below n stay mapped, page n has frame f, and the tables that it needs are added
 pub record IsAdded (z k : Ram) (r t n f : ℕ) (q w : Frames) : Type 0 where
   pub dense : IsDense z r t n
   pub small : n < 32768
@@ -34,7 +34,7 @@ pub record IsAdded (z k : Ram) (r t n f : ℕ) (q w : Frames) : Type 0 where
   pub looks : (p : ℕ) → p < n → lookup_of k r p ≡ lookup_of z r p
   pub adds : Adds z k r n q w
 
--- what is held then: the page's frame, and the tables that came
+-- what is held then: the page's frame, and the tables that were added
 pub record IsCounted (z k : Ram) (r t n f : ℕ) (q w : Frames) (v : ℕ) : Type 0 where
   pub held : count_of v (held k r t (suc n))
       ≡ count_of v (tables_for k r n) + count_of v (held z r t n) + count_of v (f ∷ [])
@@ -61,7 +61,7 @@ module _ {z k : Ram} {r t n f : ℕ} {q w : Frames} (e : IsAdded z k r t n f q w
       ∙ ap (λ l. count_of v (tables_for k r n) + count_of v l) both.0 in
       record { held = omega (arith, count-held); free = taken; tables = tables }
 
--- a frame of the list has no holder and no further one
+-- a free frame has no holder and no further one
 free-none : (m : Ram) (s : Frames) (v : ℕ) → IsFreeList m s → 0 < count_of v (free_of m s)
     → (holders_of m s v ≡ 0) × (further_at s v ≡ 0)
 free-none m s v is some = elim (count-cases v (free_of m s)) [
@@ -126,7 +126,7 @@ module _ {z k : Ram} {r t n f marks : ℕ} {q w : Frames} (b : IsBefore z r t n 
   next-bytes v some none =
       e.keeps.others v (λ h. omega (arith, table-held b.space.dense h)) (held-inside z q v b.space.free some).1
 
-  -- the space trades for the page's frame, which it was counted to hold, and the tables that came
+  -- the space trades for the page's frame, which it was counted to hold, and the tables that were added
   pub next-trades : Trades z k q w (f ∷ held z r t n) (held k r t (suc n))
   next-trades = record {
     count = e.keeps.count;
@@ -164,7 +164,7 @@ module _ {m : Ram} {r t n : ℕ} {s : Frames} (is : OwnsFrames m r t n s) where
       let more : frames_for (n + 1) ≡ frames_for (suc n) = ap frames_for (add-one n) in
       omega (arith, missing-next is.dense small)
 
-  -- a space stands where a frame that it holds at a closed page alone, or doesn't hold, gets another holder
+  -- a space stays intact where a frame that it holds at a closed page alone, or doesn't hold, gets another holder
   pub share-stands : (f : ℕ) {q : Frames} → IsFreeList m q
       → ((v : ℕ) → holders_of m q v ≡ holders_of m s v + count_of v (f ∷ [])) → free_of m q ≡ free_of m s
       → count_of f (tables_below m r n) + count_of f (t ∷ []) ≡ 0
@@ -223,7 +223,7 @@ module _ {m z : Ram} {s q : Frames} {f : ℕ} (is : IsFreeList m s) (took : IsTa
             [ inl e ↦ ap (holders_of m s) e ∙ none | inr ne ↦ absurd (omega (arith, count_of-other v f [] ne)) ];
       }
 
--- the page has come, with these bytes
+-- the page was added, with these bytes
 pub record IsGrown (m k : Ram) (r t n marks : ℕ) (bytes : List ℕ) (s w : Frames) : Type 0 where
   pub space : OwnsFrames k r t (n + 1) w
   pub pages : pages_below k r (n + 1) ≡ pages_below m r n ++ (page_with bytes marks ∷ [])
@@ -233,7 +233,7 @@ pub record IsGrown (m k : Ram) (r t n marks : ℕ) (bytes : List ℕ) (s w : Fra
   pub room : frames_for (n + 1) + free_count k w ≡ frames_for n + free_count m s
 
 module _ {m z : Ram} {r t n f : ℕ} {s q : Frames} (is : OwnsFrames m r t n s) (took : IsTaken m z s q f) where
-  -- the space stands beside that
+  -- the space is intact beside that
   taken-beside : Besides m z q r t n
   taken-beside = Trades-held (taken-trades is.free took) is (λ v. omega arith) (free-after is.free took).1
 
@@ -308,7 +308,7 @@ pub record IsGiven (j k : Ram) (f : ℕ) (a w : Frames) : Type 0 where
 
 -- ---- and then it goes
 
--- the space has a page less
+-- the space has one page less
 pub record IsDropped (m k : Ram) (r t n : ℕ) (s w : Frames) : Type 0 where
   pub space : OwnsFrames k r t n w
   pub pages : (b : ℕ) → b ≤ n → pages_below k r b ≡ pages_below m r b
@@ -332,7 +332,7 @@ module _ {m j : Ram} {r t n f : ℕ} {s a : Frames} (is : OwnsFrames m r t (suc 
     ];
   }
 
-  -- the other way round the page comes
+  -- in the other direction, the page is added
   added : IsAdded j m r t n f a s
   added = record {
     dense = IsDense-unmapped;
@@ -420,7 +420,7 @@ unmapped-was m r n {f} {a} found e =
     let both : ◌≡◌ {A = Option ℕ} (Some a.0) (Some f) = ap (option_map (λ (x : ℕ × ℕ). x.0)) (sym found) ∙ e in
     ap (λ (o : Option (ℕ × ℕ)). (unwrap_or o (0, 0)).0) found ∙ ap (λ (o : Option ℕ). unwrap_or o 0) both
 
--- ---- a space of no pages comes and goes
+-- ---- a space of no pages is made, and goes
 
 -- an empty page table whose frame was free, and then a frame that is taken
 pub record IsStart (m j z : Ram) (s a q : Frames) (r t : ℕ) : Type 0 where
@@ -470,7 +470,7 @@ module _ {m j z : Ram} {s a q : Frames} {r t : ℕ} (is : IsStart m j z s a q r 
   start-count = free_count-taken m z s q 2 (omega (arith, ap length start-free)) (is.taken.extra ∙ is.extra)
       (free-after is.paged.free is.taken).1
 
--- the space stands, and traded nothing for its frames
+-- the space is intact, and traded nothing for its frames
 pub record IsMade (m z k : Ram) (r t : ℕ) (s w : Frames) : Type 0 where
   pub space : OwnsFrames k r t 0 w
   pub registers : frame_of k t ≡ frame_of z t

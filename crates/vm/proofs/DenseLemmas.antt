@@ -34,7 +34,7 @@ frames_for-more n =
     ] in
     omega arith
 
--- ---- where a frame stands
+-- ---- where a frame is
 
 module _ (m : Ram) (r : ℕ) where
   pub length-tables_for : (n : ℕ) → length (tables_for m r n) ≡ one_if (eqb n 0) + one_if (eqb (n % 512) 0)
@@ -141,7 +141,7 @@ low-0 p h = let a : p / 262144 % 512 ≡ 0 = omega arith in let b : p / 512 % 51
 pub mid-0 : (p : ℕ) → p < 32768 → mid_node p ≡ Mid 0
 mid-0 p h = let a : p / 262144 % 512 ≡ 0 = omega arith in rw a refl
 
--- the place of the table of the block that a page is in
+-- the index of the table of the block that a page is in
 block-start : (p : ℕ) → p < 32768 → low_node (p / 512 * 512) ≡ low_node p
 block-start p h = let a : p / 512 * 512 / 512 ≡ p / 512 = omega arith in low-0 (p / 512 * 512) (omega arith)
     ∙ ap (Low 0) a ∙ sym (low-0 p h)
@@ -276,7 +276,7 @@ mapped-mid m r p e = elim (none-or (table_at m r (mid_node p))) [
 ]
 
 module _ (m k : Ram) (r : ℕ) where
-  -- the lists go by the tables and pages below n
+  -- the lists depend on the tables and pages below n alone
   pub frames_below-same : (n : ℕ) → ((p : ℕ) → p < n → lookup_of k r p ≡ lookup_of m r p)
       → frames_below k r n ≡ frames_below m r n
   unfolding frames_below
@@ -350,7 +350,7 @@ module _ {m : Ram} {r t n : ℕ} (is : IsDense m r t n) where
     rest = λ j high bound ne. looks j bound (omega arith) ∙ is.rest j (omega arith) bound ne;
   }
 
-  -- the tables and pages stand
+  -- the tables and pages stay
   pub held-same : (k : Ram) → ((p : ℕ) → p < n → lookup_of k r p ≡ lookup_of m r p)
       → ((x : Node) (u : ℕ) → IsNode x → table_at m r x ≡ Some u → table_at k r x ≡ Some u)
       → (tables_below k r n ≡ tables_below m r n) × (frames_below k r n ≡ frames_below m r n)
@@ -402,7 +402,7 @@ module _ {m : Ram} {r t n : ℕ} (is : IsDense m r t n) where
       let e : low_node (n - 1) ≡ low_node n = low-0 (n - 1) (omega arith) ∙ ap (Low 0) block ∙ sym (low-0 n small) in
       rw (← e) (mapped-low m r (n - 1) (is.pages (n - 1) (omega arith)))
 
-  -- the tables that come are those that the next page needs
+  -- the tables that were added are those that the next page needs
   pub made-tables : (k : Ram) → n < 32768 → made m k r n ≡ tables_for k r n
   unfolding made
   made-tables k small = elim (cases_eq n 0) [
@@ -437,7 +437,7 @@ list-after m z s q f is taken after count others =
     λ g at. others g (λ e. cc (ap (λ x. among x (free_of m q)) e, at, first.1)) in
     (free_of-same m z q same, IsFreeList-same m z q after count same)
 
--- the page has come
+-- the page was added
 pub record IsNext (z k : Ram) (r n f marks : ℕ) (q w : Frames) : Type 0 where
   pub leaf : IsUserLeaf marks
   pub inserts : Maps z k r n f marks
@@ -502,9 +502,9 @@ paged-same {m} {k} {r} is len same free out =
       own = λ x v nx h. (out v (old x v nx h)).1;
     }
 
--- ---- a space outlives what is done beside it, also where it shares frames
+-- ---- a space stays intact whatever is done beside it, also where it shares frames
 
--- tables that keep their bytes map what they mapped, and the space stands
+-- tables that keep their bytes map what they mapped, and the space is intact
 pub record StaysPut (m k : Ram) (r t n : ℕ) : Type 0 where
   pub tables : tables_below k r n ≡ tables_below m r n
   pub held : held k r t n ≡ held m r t n
@@ -588,7 +588,7 @@ module _ {m : Ram} {r t n : ℕ} {s : Frames} (is : OwnsFrames m r t n s) where
         held = λ v. omega (arith, ap (count_of v) put.held, holders v);
       }
 
--- a space of c pages stands beside a trade of others
+-- a space of c pages is intact beside a trade of others
 pub record Besides (m k : Ram) (n : Frames) (r q c : ℕ) : Type 0 where
   pub space : OwnsFrames k r q c n
   pub same : held k r q c ≡ held m r q c

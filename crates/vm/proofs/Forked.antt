@@ -31,7 +31,7 @@ Trades-more m s n f all more there = record {
 -- ---- the frame of the page
 
 module _ {m : Ram} {r t n : ℕ} {s : Frames} (is : OwnsFrames m r t n s) where
-  -- a frame of a page stands there once, and is no table and no trap frame
+  -- a frame of a page occurs there once, and is no table and no trap frame
   page-once : (p : ℕ) {f : ℕ} → p < n → frame_at m r p ≡ f
       → (count_of f (tables_below m r n) + count_of f (t ∷ []) ≡ 0) × (count_of f (frames_below m r n) ≡ 1)
       × (count_of f (held m r t n) ≡ 1)
@@ -95,7 +95,7 @@ module _ {m : Ram} {x c : Space} {n : ℕ} {s : Frames} (is : IsPart m x c n s) 
         ))
       ]
 
-  -- and where its frame gets a holder: the space that is made can take it
+  -- and where its frame gets a holder: the new space can take it
   pub part-before : {f leaf : ℕ} {q : Frames} → frame_at m x.root.0 n ≡ f → marks_at m x.root.0 n ≡ leaf
       → is_open leaf ≡ false → IsFreeList m q → ((v : ℕ) → holders_of m q v ≡ holders_of m s v + count_of v (f ∷ []))
       → free_of m q ≡ free_of m s
@@ -136,14 +136,14 @@ module _ {m k : Ram} {x : Space} {n f leaf : ℕ} {s : Frames} (e : IsClosed m k
   closed-free is =
       omega (arith, Trades-lengths e.stands.trades is.free e.stands.space.free is.held, length-held)
 
-  -- a page with the bytes that it had and the marks of the leaf is one that a fork leaves
+  -- a page with its old bytes and the marks of the leaf is one that a fork leaves
   closed-page : {bs : List ℕ} → bs ≡ frame_of m (frame_at m x.root.0 n)
       → page_with bs leaf ≡ shared_page (page_at m x.root.0 n)
   closed-page same = rw (e.right, same) refl
 
 module _ {m k : Ram} {x c : Space} {n f leaf : ℕ} {s : Frames} (is : IsPart m x c n s) (low : n < pages_in x.size)
     (e : IsClosed m k x n f leaf s) where
-  -- the part stands where the page is closed
+  -- the part stays intact where the page is closed
   pub part-closed : IsPart k x c n s
       × ((v : ℕ) → count_of v (held k c.root.0 c.trap.0 n) ≡ count_of v (held m c.root.0 c.trap.0 n))
       × (pages_below k c.root.0 n ≡ pages_below m c.root.0 n) × (frame_of k c.trap.0 ≡ frame_of m c.trap.0)
@@ -230,7 +230,7 @@ module _ {m k : Ram} {x c : Space} {n f leaf : ℕ} {s : Frames} (is : IsPart m 
         );
       }
 
--- ---- what the steps ask for
+-- ---- what the steps require
 
 -- ---- all pages
 
@@ -283,7 +283,7 @@ module _ {m k l : Ram} {x c : Space} {n : ℕ} {s q w : Frames} (so : IsSoFar m 
         free = omega arith;
       }
 
--- a space with so many pages needs no fewer frames than one with fewer
+-- a space with more pages needs no fewer frames than one with fewer
 pub frames_for-grows : (n d : ℕ) → frames_for n + d ≤ frames_for (d + n)
 frames_for-grows n zero = let e : 0 + n ≡ n = omega arith in rw e (omega arith)
 frames_for-grows n (suc d) = let e : suc d + n ≡ suc (d + n) =

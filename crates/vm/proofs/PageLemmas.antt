@@ -172,7 +172,7 @@ pages-sized m r t n memory is i p at =
 
 -- ---- pages that are open stay so
 
--- pages whose leaves are read as before are as open as before
+-- pages whose leaves are read as they were are as open as they were
 pub open-read : (m k : Ram) (r n first : ℕ) → SameLeaves m k r n → IsOpenFrom m r n first → IsOpenFrom k r n first
 open-read m k r n first same is p high low =
     let d : Mapped = read_at right_marks m r p in
@@ -211,7 +211,7 @@ open-one m k r n p first g made others is q high low = elim (cases_eq q p) [
 pub open-fewer : (m : Ram) (r n k first : ℕ) → k ≤ n → IsOpenFrom m r n first → IsOpenFrom m r k first
 open-fewer m r n k first less is p high low = is p high (omega arith)
 
--- ---- the walk goes by the mapping of a space
+-- ---- the walk follows the mapping of a space
 
 -- ---- the mapping, an entry at a time
 
@@ -314,9 +314,9 @@ walks-entries m r t n small is = record {
   ]);
 }
 
--- ---- a mapping that goes on
+-- ---- a mapping that grows
 
--- what a translator holds of a mapping it may hold when pages come after it
+-- what a translator holds of a mapping it may hold when pages are added after it
 pub coherent-grown : (held : Held) (root : ℕ) (old new : List Mapped) → take (length old) new ≡ old
     → IsCoherent held root old → IsCoherent held root new
 coherent-grown held root old new front is = record {

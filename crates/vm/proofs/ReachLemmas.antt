@@ -118,7 +118,7 @@ sized-at (Some p) h a at low = elim (cases_Bool (permits a p.marks)) [
 ]
 
 module _ (a : Access) (mem : Memory) where
-  -- whether one more page is of the run
+  -- whether one more page belongs to the run
   run-test : (first i : ℕ) (p : Page) → i ≤ run_of a mem first → slice_get mem (first + i) ≡ Some p
       → permits a p.marks ≡ leb (suc i) (run_of a mem first)
   unfolding run_of
@@ -177,7 +177,7 @@ module _ (a : Access) (mem : Memory) where
     length-flat a (drop (at / 4096) mem) (sized-drop mem (at / 4096) h),
   )
 
-  -- the test whether so many bytes can be reached
+  -- the test whether `len` bytes can be reached
   pub test-long : (at len : ℕ) → IsSized mem → 4096 * length mem < len → false ≡ leb len (length (reach a mem at))
   test-long at len h long =
       sym (lt-leb len (length (reach a mem at)) (omega (arith, length-reach at h, run-le (at / 4096))))
@@ -292,7 +292,7 @@ mapped-nil (Some r) = refl
 pub strings-start : (bytes buffer : List ℕ) → Strings bytes buffer 0
 strings-start bytes buffer = record { within = omega arith; same = refl; rest = mapped-nil (before_nul bytes) }
 
--- the next byte, behind those so far
+-- the next byte, after those so far
 split : (xs : List ℕ) (i x : ℕ) → slice_get xs i ≡ Some x
     → (drop i xs ≡ x ∷ drop (suc i) xs) × (take (suc i) xs ≡ take i xs ++ (x ∷ [])) × (i < length xs)
 split xs i x e = let item =

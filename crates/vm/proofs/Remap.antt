@@ -104,7 +104,7 @@ module _ {m z k : Ram} {r t n p f g marks : ℕ} {s q : Frames} (is : OwnsFrames
         ap (count_of v) tables-same,
       )
 
-  -- the space stands
+  -- the space is intact
   remap-space : OwnsFrames k r t n q
   remap-space =
       let here = page-is-held m r t n p f low e.was in
@@ -129,7 +129,7 @@ module _ {m z k : Ram} {r t n p f g marks : ℕ} {s q : Frames} (is : OwnsFrames
   remap-bytes : (v : ℕ) → 0 < holders_of m s v → count_of v (tables_below m r n) ≡ 0 → frame_of k v ≡ frame_of m v
   remap-bytes v some none = e.keeps.others v (λ h. omega (arith, table-was v h)) (e.apart v some) ∙ e.rest v some
 
-  -- it trades a frame for another
+  -- it trades one frame for another
   remap-trades : Trades m k s q (held m r t n) (held k r t n)
   remap-trades = record {
     count = e.keeps.count ∙ e.count;
@@ -144,7 +144,7 @@ module _ {m z k : Ram} {r t n p f g marks : ℕ} {s q : Frames} (is : OwnsFrames
     ];
   }
 
-  -- the page has the bytes that it had, and these marks
+  -- the page has its old bytes, and these marks
   pub remap-page : page_at k r p ≡ page_with (frame_of m f) marks
   remap-page =
       let no_table : count_of g (tables_below m r n) ≡ 0 = elim e.new [
@@ -242,7 +242,7 @@ remap-marks {m} {k} {r} {t} {n} {p} {f} {s = s} is low was leaf sole inserts tab
 
 -- ---- a frame of its own
 
--- a frame came in the place of one that has other holders, and got its bytes
+-- a frame replaced one that has other holders, and got its bytes
 pub record IsSplit (m z : Ram) (s q : Frames) (f g : ℕ) : Type 0 where
   pub taken : free_of m s ≡ g ∷ free_of m q
   pub after : IsFreeList m q
@@ -272,7 +272,7 @@ module _ {m z : Ram} {s q : Frames} {f g : ℕ} (is : IsFreeList m s) (e : IsSpl
   split-apart v some = ap (among v) split-free.0
       ∙ (among_first_not v g (free_of m q) (sym (ap (among v) e.taken) ∙ (held-inside m s v is some).1)).1
 
-  -- the frame that came has one holder
+  -- the new frame has one holder
   pub split-sole : further_at q g ≡ 0
   split-sole = omega (arith, split-fewer g, further-free is g split-first)
 
@@ -340,7 +340,7 @@ module _ {m : Ram} {r t n : ℕ} {s : Frames} (is : OwnsFrames m r t n s) (p : �
 pub page-shared : (m : Ram) (s : Frames) (f : ℕ) → IsFreeList m s → 1 < holders_of m s f → further_at s f ≢ 0
 page-shared m s f is many none = omega (arith, holders-free is f, one_if-le (ltb f (length m)))
 
--- a leaf that is made of the one that was found, with rights that come of its
+-- a leaf that is made of the one that was found, with changed rights
 pub record IsMadeLeaf (m : Ram) (r p f a : ℕ) (change : Perm → Perm) (wide : Bool) : Type 0 where
   pub frame : frame_at m r p ≡ f
   pub leaf : IsUserLeaf a

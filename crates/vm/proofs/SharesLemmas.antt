@@ -12,9 +12,9 @@ use Rattle.vm.proofs.Common.{◌≤◌}
 use Rattle.frames.proofs.HolderLemmas.{same-further, same-holders, same-list, same-shared}
 use Rattle.vm.proofs.DenseLemmas.{alone-stays, Trades-space, Trades-untouched, length-held}
 
--- ---- counts in a list of places
+-- ---- counts in a list of slots
 
--- one place counts no more than all, and two places neither
+-- one slot counts no more than all, and two slots neither
 pub one-place : {X : Type 0} (g : Option X → List ℕ) (f : ℕ) (xs : List (Option X)) (i : ℕ) → g None ≡ []
     → count_of f (g (get_or xs i None)) ≤ count_of f (flat_map g xs)
 one-place g f [] i none = omega (arith, ap (count_of f) none)
@@ -36,7 +36,7 @@ same-places g h [] same = refl
 same-places g h (x ∷ xs) same = ap (λ l. l ++ flat_map h xs) (same 0)
     ∙ ap (λ l. g x ++ l) (same-places g h xs (λ j. same (suc j)))
 
--- one place changes
+-- one slot changes
 pub set-place : {X : Type 0} (g h : Option X → List ℕ) (f : ℕ) (xs : List (Option X)) (i : ℕ) (y : Option X)
     → i < length xs → ((j : ℕ) → j ≢ i → h (get_or xs j None) ≡ g (get_or xs j None))
     → count_of f (flat_map h (slice_set xs i y)) + count_of f (g (get_or xs i None))
@@ -53,7 +53,7 @@ set-place g h f (x ∷ xs) (suc i) y hi same =
       set-place g h f xs i y (omega arith) (λ j ne. same (suc j) (λ e. ne (omega arith))),
     )
 
--- what holds of the one that comes and of the others holds of each
+-- what holds of the new one and of the others holds of each
 pub each-set : {X : Type 0} (P : X → Type 0) (xs : List (Option X)) (i : ℕ) (y : Option X) → i < length xs
     → ((x : X) → y ≡ Some x → P x) → ((j : ℕ) (x : X) → j ≢ i → get_or xs j None ≡ Some x → P x)
     → (j : ℕ) (x : X) → get_or (slice_set xs i y) j None ≡ Some x → P x
@@ -66,7 +66,7 @@ within-places : (xs : List (Option Space)) (i : ℕ) (x : Space) → get_or xs i
 within-places xs i x e =
     elim (cases_lt i (length xs)) [ inl low ↦ low | inr past ↦ absurd (let none = get_or_past xs i None past in cc) ]
 
--- ---- one place trades
+-- ---- one slot trades
 
 -- what is held in all
 all-count : (m : Ram) (places : List (Option Space)) (others : List ℕ) (f : ℕ)
@@ -96,7 +96,7 @@ module _ {m : Ram} {s : Frames} {places : List (Option Space)} {others : List �
           ap (λ o. count_of f (held_at m o)) e,
         )
 
--- what one place trades leaves the others as they were
+-- what one slot trades leaves the others as they were
 pub trade-others : OnePlaceSpares
 trade-others m k s n places others new i is t j x ne e = Trades-untouched t x (is.each j x e) (room-of is i j ne e)
 
@@ -112,7 +112,7 @@ place-space : (k : Ram) (y : Option Space) (n : Frames) (x : Space) → IsPlace 
 place-space k None n x h e = absurd cc
 place-space k (Some z) n x h e = let same : z ≡ x = cc in rw (← same) h
 
--- the machine stays one where one place trades: a space that grows or shrinks, is written, comes, goes or is replaced
+-- a machine stays one where one slot trades: a space that grows or shrinks, is written, is made, goes or is replaced
 pub trade-machine : OnePlaceTrades
 trade-machine m k s n places others i y is hi new t =
     let stay = trade-others m k s n places others (held_at k y) i is t in
@@ -134,7 +134,7 @@ trade-machine m k s n places others i y is hi new t =
           alone-stays t f is.free (place-free k y n new) (omega arith) (is.alone f some);
     }
 
--- the machine stays one where a space shares its frames with a new one, which gets a place that had none
+-- a machine stays one where a space shares its frames with a new one, which gets a slot that had none
 pub fork-machine : OnePlaceForks
 fork-machine m k s n places others i j x c is at hi none parent child t =
     let first : Trades m k s n (held_at m (get_or places i None)) (holds k x ++ holds k c) = rw at t in
@@ -184,12 +184,12 @@ trade-rest m k s n places others new i f is t some =
 
 -- ---- the others trade
 
--- all spaces are as they were where other frames come, go or are written
+-- all spaces are as they were where other frames are taken, given back or written
 pub rest-untouched : OthersSpare
 rest-untouched m k s n places others old new is low t j x e =
     Trades-untouched t x (is.each j x e) (beside-rest is old j low e)
 
--- and the machine stays one
+-- and a machine stays one
 pub rest-machine : OthersTrade
 rest-machine m k s n places others after old new is free low t once moved =
     let stay = rest-untouched m k s n places others old new is low t in
@@ -251,9 +251,9 @@ pub rest-held : (m : Ram) (s : Frames) (places : List (Option Space)) (others : 
     → IsMachine m s places others → 0 < count_of f others → 0 < holders_of m s f
 rest-held m s places others f is some = omega (arith, all-count m places others f)
 
--- ---- a space is made beside the others, and gets a place
+-- ---- a space is made beside the others, and gets a slot
 
--- and then it gets a place that has none
+-- and then it gets a slot that has none
 pub settle-machine : NewSpaceSettles
 settle-machine m s places others i y is hi none new = record {
   free = is.free;
@@ -307,7 +307,7 @@ none-there zero j x e = cc
 none-there (suc n) zero x e = cc
 none-there (suc n) (suc j) x e = none-there n j x e
 
--- where all frames are free no place has a space
+-- where all frames are free no slot has a space
 pub machine-new : (m : Ram) (s : Frames) (n : ℕ) → IsFreeList m s → IsShared m s []
     → IsMachine m s (replicate n None) []
 machine-new m s n free shared = record {

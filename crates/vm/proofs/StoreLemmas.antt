@@ -1,4 +1,4 @@
--- Pages and the trap frame are written: the space stands.
+-- Pages and the trap frame are written: the space stays intact.
 use Rattle.vm.proofs.Common.{mapping_of, read_at, Ram, [], among, among-none, ap, arith, cases_eq, cases_lt, count_of}
 use Rattle.vm.proofs.Common.{count_of-first, entry_marks, ext_get_or, frame_at, frame_of, Frames, frames_below, free_of}
 use Rattle.vm.proofs.Common.{free_of-same, further_at, get_or, get_or-set_other, get_or-set_same, HasTable, held}
@@ -40,7 +40,7 @@ module _ {m k : Ram} {r t n : ℕ} {s : Frames} (is : OwnsFrames m r t n s) (w :
     | inr some ↦ absurd (cc (at, among-none g (free_of m s) (omega (arith, held-not_free is g, count-held))))
   ]
 
-  -- the space stands beside free frames and other holders where frames with several holders aren't written
+  -- the space is intact beside free frames and other holders where frames with several holders aren't written
   pub space-stays : ((f : ℕ) → further_at s f ≢ 0 → frame_of k f ≡ frame_of m f)
       → OwnsFrames k r t n s × Trades m k s s (held m r t n) (held k r t n)
   space-stays private =
@@ -68,7 +68,7 @@ module _ {m k : Ram} {r t n : ℕ} {s : Frames} (is : OwnsFrames m r t n s) (w :
         },
       )
 
--- the space stands where only its pages and its trap frame are written, and those alone that it alone holds
+-- the space is intact where only its pages and its trap frame are written, and those alone that it alone holds
 pub stands : (m k : Ram) (s : Space) → IsMapped m s → IsOnce m s → Writes m k s.root.0 s.trap.0 (pages_in s.size)
     → ((free : Frames) → IsSpace m s free → (f : ℕ) → further_at free f ≢ 0 → frame_of k f ≡ frame_of m f)
     → Stands m k s
@@ -416,7 +416,7 @@ put-reframes m k s q p at bs is low sole e =
 
 module _ (m k : Ram) (s : Space) (p at : ℕ) (bs : List ℕ) (is : IsMapped m s) (once : IsOnce m s)
     (low : p < pages_in s.size) (e : k ≡ put m (frame_at m s.root.0 p) at bs) where
-  -- the leaves are read as before
+  -- the leaves are read as they were
   pub put-reads : SameLeaves m k s.root.0 (pages_in s.size)
   unfolding put
   put-reads = (writes-put is once
@@ -456,7 +456,7 @@ module _ (m k : Ram) (s : Space) (address : ℕ) (bs : List ℕ) (is : IsMapped 
         ∙ ap (λ new. write_bytes (after new) (address + n) (drop n bs)) (sym (take_all n bs (omega arith)))
         ∙ write-page (pages_of m s) address n (page_at m s.root.0 page) bs some here (omega arith)
 
-    -- and the space stands where the page is open
+    -- and the space is intact where the page is open
     pub put-stands : is_open (marks_at m s.root.0 page) ≡ true → Stands m k s
     unfolding put
     put-stands wide = space-stored m k s page (put_bytes (frame_of m (frame_at m s.root.0 page)) (address % 4096) bs) is
@@ -464,7 +464,7 @@ module _ (m k : Ram) (s : Space) (address : ℕ) (bs : List ℕ) (is : IsMapped 
 
 -- ---- a part of a frame is written
 
--- what was lent comes back with the part in place
+-- what was lent is returned with the part written
 pub part-put : (m : Ram) (f at : ℕ) (bs page new : List ℕ) (n : ℕ) → n ≡ length bs → at + length bs ≤ 4096
     → length (frame_of m f) ≡ 4096 → page ≡ frame_of m f → new ≡ bs
     → slice_set m f (sized (take at page ++ (new ++ drop n (drop at page)))) ≡ put m f at bs

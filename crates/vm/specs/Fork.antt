@@ -9,14 +9,14 @@ use Rattle.vm.specs.Dense.{OwnsFrames, frame_at, frames_for, page_at}
 use Rattle.vm.specs.Space.{HasFramesOf, IsSpace, SameOtherPages, first_pages, held_by, holds, pages_in, registers_of}
 use Rattle.unixmodel.specs.Memory.{shared_memory, shared_page}
 
--- a space and one that is made, which shares its first n pages
+-- a space and a new one, which shares its first n pages
 pub record IsPart (m : List (List ℕ)) (x c : Space) (n : ℕ) (s : Frames) : Type 0 where
   pub parent : IsSpace m x s
   pub child : OwnsFrames m c.root.0 c.trap.0 n s
   pub room : (v : ℕ) → count_of v (holds m x) + count_of v (held_by m c n) ≤ holders_of m s v
   pub shared : (p : ℕ) → p < n → frame_at m c.root.0 p ≡ frame_at m x.root.0 p
 
--- one page more
+-- one more page
 pub record IsMore (m k : List (List ℕ)) (x c : Space) (n : ℕ) (s w : Frames) : Type 0 where
   pub part : IsPart k x c (suc n) w
   pub marked : page_at k x.root.0 n ≡ shared_page (page_at m x.root.0 n)

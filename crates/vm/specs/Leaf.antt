@@ -39,7 +39,7 @@ IsUserLeaf leaf = leaf ≡ user_leaf (right_marks leaf) (is_open leaf)
 abbrev pub marks_from : Perm → Rights
 marks_from p = record { writable = p.w; executable = p.x; user = p.u; shared = false }
 
--- the page that a caller is told of, by its bytes and its marks
+-- the page that is returned to a caller, by its bytes and its marks
 abbrev pub page_from : Bor (List ℕ) × Perm → Page
 page_from told = record { bytes = told.0.now; marks = marks_from told.1 }
 

@@ -21,15 +21,15 @@ rest_of at (Some p) = drop at p.bytes
 abbrev pub piece_at : Access → Memory → ℕ → List ℕ
 piece_at access mem address = rest_of (address % 4096) (page_for access mem address)
 
--- a page with these bytes in place
+-- a page, overwritten by these bytes from offset `at` on
 abbrev pub written : Page → ℕ → List ℕ → Page
 written p at new = record p { bytes = overwrite p.bytes at new }
 
--- the string in a buffer, where its length is told
+-- the string in a buffer, where there is a length
 abbrev pub string_in : List ℕ → Option ℕ → Option (List ℕ)
 string_in buffer told = option_map (λ n. take n buffer) told
 
--- a string, where it has so many bytes at most
+-- a string, where it has at most `most` bytes
 abbrev pub short_string : ℕ → Option (List ℕ) → Option (List ℕ)
 short_string most None = None
 short_string most (Some s) = if nat_le (length s) most then Some s else None

@@ -12,7 +12,7 @@ use Rattle.sv39.specs.Mapping.{Mapped, memory_of}
 use Rattle.unixmodel.specs.Memory.{Memory, Perm as Rights, write_bytes, zero_page}
 use Rattle.vm.specs.declared.Perm.{Perm}
 
--- how many pages so many bytes need
+-- how many pages that many bytes need
 abbrev pub pages_in : ℕ → ℕ
 pages_in size = (size + 4095) / 4096
 
@@ -20,7 +20,7 @@ pages_in size = (size + 4095) / 4096
 abbrev pub max_size : ℕ
 max_size = 274877898752
 
--- the space stands beside the free frames
+-- the space is intact beside the free frames
 abbrev pub IsSpace : List (List ℕ) → Space → Frames → Type 0
 IsSpace m s free = OwnsFrames m s.root.0 s.trap.0 (pages_in s.size) free
 
@@ -71,7 +71,7 @@ first_pages m s n = pages_below m s.root.0 n
 abbrev pub HasFramesOf : List (List ℕ) → List (List ℕ) → Space → Space → Type 0
 HasFramesOf m k x c = (p : ℕ) → p < pages_in x.size → page_frame k c p ≡ page_frame m x p
 
--- the frame of each page of a space got a holder more
+-- the frame of each page of a space got one more holder
 abbrev pub GainsHolders : List (List ℕ) → List (List ℕ) → Space → Frames → Frames → Type 0
 GainsHolders m k x s w = (p : ℕ) → p < pages_in x.size
     → holders_of k w (page_frame m x p) ≡ holders_of m s (page_frame m x p) + 1
@@ -84,11 +84,11 @@ SameOtherMarks m k x page = (p : ℕ) → p < pages_in x.size → p ≢ page →
 abbrev pub SameOtherPages : List (List ℕ) → List (List ℕ) → Space → ℕ → Type 0
 SameOtherPages m k x page = (p : ℕ) → p < pages_in x.size → p ≢ page → page_at k x.root.0 p ≡ page_at m x.root.0 p
 
--- the pages of zeros that come where a space of so many bytes gets more
+-- the pages of zeros that are added where a space of `size` bytes gets `more`
 abbrev pub new_pages : ℕ → ℕ → Perm → Memory
 new_pages size more perm = replicate (pages_in (size + more) - pages_in size) (zero_page (marks_from perm))
 
--- a space of so many bytes may have so many more, but fewer frames are free than it needs for them
+-- a space of `size` bytes may have `more` beside, but fewer frames are free than it needs for them
 abbrev pub LacksFrames : List (List ℕ) → Frames → ℕ → ℕ → Type 0
 LacksFrames m s size more = (size + more ≤ max_size)
     × (frames_for (pages_in size) + free_count m s < frames_for (pages_in (size + more)))
@@ -97,18 +97,18 @@ LacksFrames m s size more = (size + more ≤ max_size)
 abbrev pub stored : List (List ℕ) → Space → ℕ → List ℕ → Memory
 stored m s address bytes = write_bytes (pages_of m s) address bytes
 
--- no frame stands twice in what the space holds: no two pages have the same, and none of them is a table or the trap
+-- no frame occurs twice in what the space holds: no two pages have the same, and none of them is a table or the trap
 -- frame
 abbrev pub IsOnce : List (List ℕ) → Space → Type 0
 IsOnce m s = (f : ℕ) → count_of f (holds m s) ≤ 1
 
--- A space's pages from one on stay open where they are, and those that come behind it are open: there a store goes
+-- A space's pages from one on stay open where they are, and those that are added after it are open: there a store goes
 -- through where the program may write by right.
 abbrev pub StaysOpen : List (List ℕ) → List (List ℕ) → Space → Space → Type 0
 StaysOpen m k old new = (first : ℕ) → IsOpenFrom m old.root.0 (pages_in old.size) first
     → IsOpenFrom k new.root.0 (pages_in new.size) first
 
--- a space of which no more was written than the bytes of its pages and its trap frame
+-- a space of which nothing was written except the bytes of its pages and its trap frame
 pub record Stands (m k : List (List ℕ)) (s : Space) : Type 0 where
   pub count : length k ≡ length m
   pub mapped : IsMapped k s

@@ -1,5 +1,5 @@
 -- The trap frame of a space: a program's registers while it doesn't run.
--- Numbers of 8 bytes, the lowest first: the program counter from place 24 on, and register x1 to x31, each at 32 and 8
+-- Numbers of 8 bytes, the lowest first: the program counter from offset 24 on, and register x1 to x31, each at 32 and 8
 -- times its number.
 use Rattle.std.specs.Prelude.{◌≡◌, ◌<◌, ◌≤◌, ◌⊎◌, ℕ, ◌+◌, ◌*◌, List, ◌∷◌, map, slice_index_or}
 use Rattle.std.specs.List.{range_with_len}
@@ -13,11 +13,11 @@ saved_pc m s = word_of m s.trap.0 24 8
 abbrev pub saved_register : List (List ℕ) → Space → ℕ → ℕ
 saved_register m s i = word_of m s.trap.0 (32 + 8 * i) 8
 
--- all registers: x0 is 0, and stands nowhere
+-- all registers: x0 is 0, and isn't stored
 unfoldable pub saved_registers : List (List ℕ) → Space → List ℕ
 saved_registers m s = 0 ∷ map (saved_register m s) (range_with_len 1 31)
 
--- a place in the trap frame that has no part of a register or the program counter
+-- an offset in the trap frame that has no part of a register or the program counter
 abbrev pub IsSpare : ℕ → Type 0
 IsSpare at = (at < 24) ⊎ ((32 ≤ at) × (at < 40) ⊎ (288 ≤ at))
 

@@ -37,7 +37,7 @@ pub(crate) fn marks_of(leaf: EntryBits) -> Marks
 }
 
 impl Marks {
-    /// Whether a program may access a page with these marks so.
+    /// Whether a program may make this access to a page with these marks.
     pub fn permits(self, access: Access) -> bool
         ensures { result ≡ permits access (rights_from self) }
     {
@@ -49,7 +49,7 @@ impl Marks {
     }
 }
 
-// Puts bytes at a place of a frame.
+// Writes bytes at an offset of a frame.
 fn write_part(ram: &mut Ram, frame: FrameNo, at: usize, bytes: &[u8])
     requires frame { frame.0 < length ram.old }
     requires place { at + length bytes.now ≤ 4096 }
@@ -68,7 +68,7 @@ impl Space {
         self.root
     }
 
-    /// The walk from the root goes by the entries: it gives a page's frame for each access that the page's marks
+    /// A law: the walk from the root follows the entries: it gives a page's frame for each access that the page's marks
     /// permit, and nothing elsewhere, not even at the trap frame. A store goes through at open pages alone.
     pub fn walks(&self, ram: &Ram)
         requires { IsMapped ram.now self.now }
@@ -122,7 +122,7 @@ impl Space {
         }
     }
 
-    // How many pages from `first` on permit an access, up to the first that doesn't; `most` at the most.
+    // How many pages from `first` on permit an access, up to the first that doesn't; at most `most`.
     fn run(&self, ram: &Ram, first: u64, most: u64, access: Access) -> u64
         requires mapped { IsMapped ram.now self.now }
         requires first { first < 2 ^ 52 }
@@ -158,7 +158,7 @@ impl Space {
         self.reaches_pages(ram, address, len, access)
     }
 
-    // The same page by page. It is out of line, so that the way of few bytes is short.
+    // The same page by page. It is out of line, so that the path of few bytes is short.
     #[inline(never)]
     fn reaches_pages(&self, ram: &Ram, address: u64, len: u64, access: Access) -> bool
         requires mapped { IsMapped ram.now self.now }
@@ -224,7 +224,7 @@ impl Space {
         self.readable(ram, address).first().copied()
     }
 
-    /// Copies the string at an address into a buffer, and tells its length: the bytes before the first
+    /// Copies the string at an address into a buffer, and returns its length: the bytes before the first
     /// 0, without it. `None` where a program may not read them and the 0, or the buffer is too short.
     pub fn copy_string(&self, ram: &Ram, address: u64, buffer: &mut [u8]) -> Option<usize>
         requires { IsMapped ram.now self.now }
@@ -267,7 +267,7 @@ impl Space {
         }
     }
 
-    /// Puts bytes into a page where a store goes through: no page gets another frame. `false`: there are none, they
+    /// Writes bytes into a page where a store goes through: no page gets another frame. `false`: there are none, they
     /// don't all lie in one page, or it isn't such a page; nothing is written then.
     pub fn store(&self, ram: &mut Ram, address: u64, bytes: &[u8]) -> bool
         requires mapped { IsMapped ram.old self.now }
@@ -288,7 +288,7 @@ impl Space {
         true
     }
 
-    // Writes the bytes that lie in the page of an address, and tells how many.
+    // Writes the bytes that lie in the page of an address, and returns how many.
     fn write_page(&self, ram: &mut Ram, frames: &mut Frames, address: u64, bytes: &[u8]) -> usize
         requires space { IsSpace ram.old self.now frames.old }
         requires page { address / 4096 < pages_in self.now.size }
@@ -306,7 +306,7 @@ impl Space {
         len
     }
 
-    /// Puts bytes into the pages from an address on, whatever the marks of the pages, as a loader does.
+    /// Writes bytes into the pages from an address on, whatever the marks of the pages, as a loader does.
     ///
     /// A page whose frame others hold too gets a frame of its own first.
     pub fn fill(&self, ram: &mut Ram, frames: &mut Frames, address: u64, bytes: &[u8])

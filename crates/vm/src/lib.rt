@@ -1,9 +1,9 @@
 //! Address spaces: a program's memory as page tables map it, beside other holders of frames.
 //!
-//! A space has the pages from page 0 on, as many as its size needs, each in a frame of its own and with
-//! marks of its own. It also holds its tables and a trap frame, which is mapped at the highest page that
-//! the walk reaches but one, where programs have no access. In contracts a space's memory is `pages_of`,
-//! in the words of unixmodel's Memory, and the frames and marks behind it are `mapping_of`.
+//! A space has the pages from page 0 on, as many as its size needs, no two in the same frame and each with
+//! marks of its own. It also holds its tables and a trap frame, which is mapped at the second highest page
+//! below address 2^38, where programs have no access. In contracts a space's memory is `pages_of`, in terms
+//! of unixmodel's Memory, and the frames and marks under it are `mapping_of`.
 //!
 //! Every operation that takes or gives back frames says which ones by `Trades`, so what another space
 //! or anything else holds is as it was: `shares` has the laws for a whole machine. An operation that is
@@ -64,12 +64,12 @@ pub struct Perm {
 pub struct Marks {
     /// What a program may do there by right.
     pub perm: Perm,
-    /// Whether a fork had the page since it came: the first store to it may fault, and is done then.
+    /// Whether a fork had the page since it was made: the first store to it may fault, and is done then.
     pub shared: bool,
 }
 
 impl Marks {
-    // The marks of a page that comes.
+    // The marks of a new page.
     fn new(perm: Perm) -> Marks
         ensures { rights_from result ≡ marks_from perm }
     {
@@ -109,7 +109,7 @@ impl Marks {
 
 /// An address space.
 ///
-/// Its frames are its own until `destroy` gives them back: let go otherwise, they are lost.
+/// It holds its frames until `destroy` gives them back: let go otherwise, they are lost.
 #[derive(Drop)]
 pub struct Space {
     // the root of the tables
@@ -134,7 +134,7 @@ const SHARED: EntryBits = EntryBits(512);
 // The marks of the trap frame's page: V, R, W, A, D and the right to write, and no U.
 const TRAP: EntryBits = EntryBits(455);
 
-/// How many frames a space of so many pages holds: the pages, the trap frame, the root, two tables for
+/// How many frames a space of `pages` pages holds: the pages, the trap frame, the root, two tables for
 /// the trap frame, a table for each 512 pages, and one above those.
 pub fn frames_for(pages: u64) -> u64
     requires { pages < 2 ^ 32 }
@@ -143,7 +143,7 @@ pub fn frames_for(pages: u64) -> u64
     4 + pages + pages.div_ceil(512) + u64::from(pages > 0)
 }
 
-/// How many pages so many bytes need.
+/// How many pages `size` bytes need.
 pub fn pages_in(size: u64) -> u64
     requires { size < 2 ^ 63 }
     ensures { result ≡ pages_in size }
@@ -206,7 +206,7 @@ impl Space {
         }
     }
 
-    // Makes a free frame, all zero, the next page.
+    // Makes a free frame the next page, all zero.
     fn add_page(&self, ram: &mut Ram, frames: &mut Frames, n: u64, marks: EntryBits)
         requires held { OwnsFrames ram.old self.now.root.0 self.now.trap.0 n frames.old }
         requires small { n < 32768 }
@@ -275,11 +275,11 @@ impl Space {
         }
     }
 
-    /// Adds so many bytes: pages that come are all 0 and have these marks, and a store goes through at them where those
+    /// Adds `bytes` bytes: new pages are all 0 and have these marks, and a store goes through at them where those
     /// permit it.
     ///
     /// `TooLarge` where the size would pass `MAX_SIZE`; if it wouldn't, `Frames` where fewer frames are
-    /// free than the pages and their tables need. The cost goes by the pages that come alone.
+    /// free than the pages and their tables need. The cost depends on the new pages alone.
     pub fn grow(
         &mut self,
         ram: &mut Ram,
@@ -356,7 +356,7 @@ impl Space {
         }
     }
 
-    /// Takes away so many bytes from the end, and gives back the pages and tables that no byte needs then.
+    /// Takes away the last `bytes` bytes, and gives back the pages and tables that no byte needs then.
     pub fn shrink(&mut self, ram: &mut Ram, frames: &mut Frames, bytes: u64)
         requires space { IsSpace ram.old self.old frames.old }
         requires less { bytes ≤ self.old.size }

@@ -24,7 +24,7 @@ use ram::{FrameNo, Ram};
 use sv39::EntryBits;
 
 impl Space {
-    // Gives a page whose frame has other holders too a frame of its own, with the same bytes, and tells it.
+    // Gives a page whose frame has other holders too a frame of its own, with the same bytes, and returns that frame.
     fn split_page(
         &self,
         ram: &mut Ram,
@@ -54,7 +54,7 @@ impl Space {
         own
     }
 
-    // Gives a page other marks; it is opened only where its frame has one holder.
+    // Sets the marks of a page; it is opened only where its frame has one holder.
     fn set_page(&self, ram: &mut Ram, frames: &Frames, page: u64, frame: FrameNo, leaf: EntryBits)
         requires space { IsSpace ram.old self.now frames.now }
         requires page { page < pages_in self.now.size }
@@ -78,7 +78,7 @@ impl Space {
     }
 
     /// Makes the frame of a page one that this space alone holds, and opens the page where a program may write it by
-    /// right: the next store goes through. Tells the frame, which is the page's old one where nobody else holds that.
+    /// right: the next store goes through. Returns the frame, which is the page's old one where nobody else holds that.
     pub fn open_page(&self, ram: &mut Ram, frames: &mut Frames, page: u64) -> FrameNo
         requires space { IsSpace ram.old self.now frames.old }
         requires page { page < pages_in self.now.size }
@@ -104,7 +104,7 @@ impl Space {
         }
     }
 
-    // Shares a page with a space that is made: the page is marked and closed in both, and its frame gets a holder.
+    // Shares a page with a new space: the page is marked and closed in both, and its frame gets a holder.
     fn share_page(&self, child: &Space, ram: &mut Ram, frames: &mut Frames, page: u64)
         requires part { IsPart ram.old self.now child.now page frames.old }
         requires page { page < pages_in self.now.size }
@@ -128,7 +128,7 @@ impl Space {
         }
     }
 
-    // Shares all pages with a space that is made and has none yet. The frames suffice: each page is counted in full.
+    // Shares all pages with a new space that has none yet. The frames suffice: each page is counted in full.
     pub(crate) fn share_pages(&self, child: &Space, ram: &mut Ram, frames: &mut Frames)
         requires part { IsPart ram.old self.now child.now 0 frames.old }
         requires room { frames_for (pages_in self.now.size) ≤ frames_for 0 + free_count ram.old frames.old }

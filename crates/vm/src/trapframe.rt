@@ -1,7 +1,7 @@
 //! The trap frame: a program's registers while it doesn't run.
 //!
 //! It is laid out as xv6 lays it out: numbers of 8 bytes, the lowest first, the program counter from
-//! place 24 on, and register x1 to x31 each at 32 and 8 times its number. Its other bytes are 0 in a
+//! offset 24 on, and register x1 to x31 each at 32 and 8 times its number. Its other bytes are 0 in a
 //! new space, and stay.
 
 ghost use Rattle.std.specs.Prelude.{◌≡◌, ◌+◌, ◌*◌, ◌^◌, ◌<◌, ◌≤◌, List, length, slice_index};
@@ -11,10 +11,10 @@ ghost use Rattle.vm.specs.TrapFrame.{saved_pc, saved_registers, KeepsSpare};
 use crate::Space;
 use ram::Ram;
 
-/// The place of the program counter in a trap frame.
+/// The offset of the program counter in a trap frame.
 const PC: usize = 24;
 
-// The place of a register in a trap frame.
+// The offset of a register in a trap frame.
 fn place_of(register: usize) -> usize
     requires { register < 32 }
     ensures { result ≡ 32 + 8 * register }
@@ -23,7 +23,7 @@ fn place_of(register: usize) -> usize
 }
 
 impl Space {
-    /// Puts the registers and the program counter into the trap frame. Register x0 is 0, and isn't put there.
+    /// Stores the registers and the program counter in the trap frame. Register x0 is 0, and isn't stored.
     pub fn save_regs(&self, ram: &mut Ram, registers: &[u64; 32], pc: u64)
         requires mapped { IsMapped ram.old self.now }
         requires once { IsOnce ram.old self.now }
@@ -42,7 +42,7 @@ impl Space {
         }
     }
 
-    /// Takes the registers from the trap frame, and tells the program counter.
+    /// Loads the registers from the trap frame, and returns the program counter.
     pub fn load_regs(&self, ram: &Ram, registers: &mut [u64; 32]) -> u64
         requires { IsMapped ram.now self.now }
         ensures registers { registers.new ≡ saved_registers ram.now self.now }

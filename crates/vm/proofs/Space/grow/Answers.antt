@@ -82,7 +82,7 @@ loop-page-preserved c =
       small = i.small;
     }
 
--- the pages that were are mapped as they were
+-- the old pages are mapped as they were
 front : (c : After-loop-page) (read : ℕ → Perm)
     → take (pages_in c.args.self.now.size)
     (read_below read c.loop-page.ram c.args.self.now.root.0 (pages_in (c.args.self.now.size + c.args.bytes)))
