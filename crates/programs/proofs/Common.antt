@@ -1,4 +1,4 @@
--- The names that the lemmas of this crate import from elsewhere, passed on from one place. Declares nothing.
+-- The names from elsewhere that the lemmas of this crate import, in one file. Declares nothing.
 pub use Rattle.std.proofs.Common.{◌%◌, ◌&&◌, ◌*◌, ◌+◌, ◌++◌, ◌-◌, ◌/◌, ◌<◌, [], ◌^◌, ap, append-nil, append_assoc}
 pub use Rattle.std.proofs.Common.{arith, Bool, drop, Err, false, get_or-set_same, IsErrAnd, le_trans, length}
 pub use Rattle.std.proofs.Common.{length-append, List, None, Ok, Option, refl, replicate, Result, rules, slice_set}

@@ -17,16 +17,16 @@ pub use Rattle.file_transfers.proofs.Fits.{serves-told}
 use Rattle.tree.specs.Telling as telling
 use Rattle.programs.specs.Headed.{Tells}
 
--- ---- what steps tell
+-- ---- what steps return
 
--- what a read tells
+-- what a read returns
 abbrev pub HasRead : FileTree → FileTree → ℕ → ℕ → List ℕ → List ℕ → ℕ → Type 0
 HasRead old new n at out out' k =
     (new ≡ record old { failures = new.failures })
     × ((node : Node) → slot old.files n ≡ Some node
     → (k ≡ min (length out) (length (node_bytes node) - at)) × (out' ≡ part at k (node_bytes node) ++ drop k out))
 
--- what a look at a node tells
+-- what a look at a node returns
 abbrev pub HasSeen : FileTree → FileTree → ℕ → InodeStat → Type 0
 HasSeen old new n s = (new ≡ record old { failures = new.failures })
     × ((node : Node) → slot old.files n ≡ Some node → telling.Tells s node)
@@ -63,7 +63,7 @@ module _ {old now : FileTree} (kept : IsKept old now) where
   kept-is-file {number} file =
       subst (λ (files : Files). IsFile files number) (sym (ap (λ (t : FileTree). t.files) kept.same)) file
 
-  -- a value is told
+  -- a value is returned
   kept-told : {B : Type 0} {Told : B → Type 0} {y : B} → Told y → Serves old now (Ok y) Told
   kept-told {y} told = serves-told y told kept.up (ap (λ (t : FileTree). t.identity) kept.same) kept.later
 
@@ -107,9 +107,9 @@ module _ {B : Type 0} (r : Result B DeviceFault) (Q : DeviceFault → Type 0) (e
   lost {old = old} {new = new} P kept serves =
       subst (λ (x : Result B DeviceFault). Serves old new x P) (sym is) (lost-then kept serves)
 
--- ---- what is told
+-- ---- results
 
--- what was read is told
+-- what was read is the result
 read-serves : {T : Type 0} {old new : FileTree} {told is : T} → IsKept old new → told ≡ is
     → Serves old new (Ok told) (λ t. IsRead old new t is)
 read-serves {told = told} kept value = kept-told kept (record { same = kept.same; value = value })
@@ -133,7 +133,7 @@ whole-read {old} {number} at {out} {out'} {k} file within serves =
     in
     kept-told (kept-one serves.told.0 serves) (record { same = serves.told.0; value = value })
 
--- where what is loaded ends, by what a program header asks for
+-- where what is loaded ends, by the segment of a program header
 pub end-told : {old new : FileTree} {told : Result (Option LoadSegment) ElfFault} (file : List ℕ) (at end : ℕ)
     {o : Option ℕ} → Serves old new (Ok told) (Tells old new (segment_behind file at end)) → o ≡ end_by end told
     → Serves old new (Ok o) (Tells old new (end_behind file at end))
@@ -204,7 +204,7 @@ pub none-of : {A : Type 0} (f : Loaded → A) (o : Option Loaded) → option_map
 none-of f None e = refl
 none-of f (Some l) e = absurd (none-some (f l) (sym e))
 
--- the first of several program headers, and what is loaded of the rest behind it
+-- the first of several program headers, and what is loaded of the rest after it
 pub record HasNext (file : List ℕ) (n at : ℕ) (l last : Loaded) : Type 0 where
   pub next : Loaded
   pub loads : load_segment file l (segment_at file at) ≡ Some next
@@ -225,7 +225,7 @@ has-next {file} {n} {at} {l} {last} all =
 header-within : (at : ℕ) {count i len : ℕ} → is_within at (56 * count) len ≡ true → i < count → at + 56 * i + 56 ≤ len
 header-within at within more = grind (arith, nat_tests, within, more)
 
--- the program headers so far are read
+-- the program headers so far were read
 pub record HasLoaded (old now : FileTree) (file : List ℕ) (count at i end : ℕ) : Type 0 where
   pub kept : IsKept old now
   pub loaded : Loaded
@@ -425,7 +425,7 @@ module _ {old mid : FileTree} (number : ℕ) {head : Option FileHeader}
 
 -- ---- the steps of `read_program`
 
--- what names no file
+-- a node that is no file
 no-file : (s : InodeStat) {o : Option Node} (node : Node) → o ≡ Some node → telling.Tells s node → s.kind ≢ 2
     → file_bytes o ≡ None
 no-file s (File links held) here tells other = absurd (other tells.0)

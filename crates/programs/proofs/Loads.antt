@@ -48,7 +48,7 @@ taken-of : (b : Bool) {shown : LoadSegment} (g : LoadSegment) (o : Option ElfFau
 taken-of true g None is = (cc, refl)
 taken-of b g o is = absurd (cc)
 
--- what comes next, by a segment that isn't refused
+-- what is loaded next, by a segment that isn't refused
 pub record IsNext (file : List ℕ) (place : ℕ) (h : SpaceView) (end : ℕ) (g : LoadSegment) (next : Loaded) : Type 0 where
   pub shown : g ≡ segment_shown (segment_at file place)
   pub is : next ≡ with_segment file (record { pages = h.memory; end = end }) (segment_at file place)
@@ -99,7 +99,7 @@ module _ (file : List ℕ) (place : ℕ) (h : SpaceView) (end : ℕ) {told : Res
 -- ---- what `load_next` reads
 
 module _ {old mid : FileTree} (s : Spaces) (at number place end : ℕ) (kept : IsKept old mid) (next : Loaded) where
-  -- nothing comes
+  -- nothing is loaded
   pub nothing-more : has_space s at ≡ true → IsPaged (view_at s at)
       → ◌≡◌ {A = Loaded} (record { pages = (view_at s at).memory; end = end }) next
       → (end ≡ next.end) × (s ≡ with_view s at (paged next.pages))
@@ -146,7 +146,7 @@ none-loading {tree} {s} {at} number count place up has empty = record {
   whole = refl;
 }
 
--- what all of them come to, for which there is room
+-- what all of them load, for which there is room
 abbrev pub Last : Spaces → ℕ → List ℕ → ℕ → ℕ → Type 0
 Last s at file count place = (last : Loaded) × (load_segments file count place nothing_loaded ≡ Some last)
     × (length last.pages < 2 ^ 32) × HasRoom s at (length last.pages)
@@ -219,7 +219,7 @@ module _ {old now : FileTree} {before after : Spaces} {at number count place i e
 
 -- ---- a whole program
 
--- what a program was read of
+-- the program that was read of a file
 pub record IsProgram (file : List ℕ) (program : Program) : Type 0 where
   pub loaded : Loaded
   pub is : loaded_of file ≡ Some loaded
@@ -287,7 +287,7 @@ module _ {old mid : FileTree} {number : ℕ} {stat : InodeStat} (file : IsFile o
         held-put : view_at s2 at ≡ paged is.loaded.pages
         held-put = is-held s at all-put has
 
-        -- a stack may come behind them
+        -- a stack may follow them
         pub stack-fits : HasRoom s at (program.pages + 2)
             → (has_space s2 at ≡ true) × IsPaged (view_at s2 at) × HasRoom s2 at (length (view_at s2 at).memory + 2)
         stack-fits room =
@@ -430,7 +430,7 @@ module _ {files : Files} {n : ℕ} {program : Program} (of : HasProgram files n 
       plan-long (file_at files n) program of.is _ p (sym planned ∙ is) in
       subst (λ k. s.frames < taken_frames s + 3 + page_frames k) (sym long) (omega (arith, are, left, over))
 
-  -- the arguments can't be given
+  -- the arguments can't be passed
   pub not-passed : Passes mem argv program.pages None → (p : Plan) → plan_at files n mem argv ≡ Some p
       → s.frames < frames_beside s p
   not-passed passes p is = absurd (none-some p (sym (passed None passes) ∙ is))

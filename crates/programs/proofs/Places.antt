@@ -1,4 +1,4 @@
--- The pages of a place, as a program comes into them.
+-- The pages of a slot, as a program is loaded into them.
 use Rattle.programs.proofs.Common.{◌%◌, ◌*◌, ◌+◌, ◌++◌, ◌-◌, ◌/◌, ◌<◌, [], ap, append-nil, append_assoc, arith, Bool}
 use Rattle.programs.proofs.Common.{drop, Err, false, get_or-set_same, length, length-append, List, None, Ok, Option}
 use Rattle.programs.proofs.Common.{refl, replicate, Result, Some, subst, suc, sym, take, true, zero, ℕ, ◌∙◌, ◌∷◌, ◌≡◌}
@@ -28,11 +28,11 @@ page_frames-more zero b less = omega arith
 page_frames-more (suc a) zero less = absurd (omega arith)
 page_frames-more (suc a) (suc b) less = rw (suc-frames a, suc-frames b) (omega (arith, less))
 
--- what has room for more has room for less
+-- what has room for more pages has room for fewer
 pub room-less : (s : Spaces) (at : ℕ) {a b : ℕ} → a ≤ b → HasRoom s at b → HasRoom s at a
 room-less s at {a} {b} less room = omega (arith, room, page_frames-more a b less)
 
--- what the place holds doesn't count
+-- what the slot holds doesn't count
 pub room-held : {new : Spaces} (s : Spaces) (at : ℕ) (h : SpaceView) {a b : ℕ} → new ≡ with_view s at h → a ≤ b
     → HasRoom s at b → HasRoom new at a
 room-held s at h {a} {b} put less room =
@@ -40,7 +40,7 @@ room-held s at h {a} {b} put less room =
     (subst (λ (ps : List (Option SpaceView)). taken_frames (record s { places = ps }) + 4 + page_frames a ≤ s.frames)
     (sym (set-set s.places at (Some h) None)) (room-less s at less room))
 
--- ---- a place
+-- ---- a slot
 
 pub has-held : {new : Spaces} (s : Spaces) (at : ℕ) (h : SpaceView) → new ≡ with_view s at h → has_space s at ≡ true
     → has_space new at ≡ true
@@ -55,12 +55,12 @@ pub paged-held : {new : Spaces} (s : Spaces) (at : ℕ) (m : Memory) → new ≡
     → IsPaged (view_at new at)
 paged-held s at m put has = subst IsPaged (sym (is-held s at put has)) refl
 
--- what comes last stays
+-- the last write stays
 pub held-twice : (s : Spaces) (at : ℕ) (a b : SpaceView) → with_view (with_view s at a) at b ≡ with_view s at b
 held-twice s at a b = ap (λ (ps : List (Option SpaceView)). record s { places = ps })
     (set-set s.places at (Some a) (Some b))
 
--- beside what the place holds, which goes then
+-- beside what the slot holds, which goes then
 pub room-beside : (s : Spaces) (at n : ℕ) → has_space s at ≡ true → taken_frames s + 3 + page_frames n ≤ s.frames
     → HasRoom s at n
 room-beside s at n has enough =
@@ -216,7 +216,7 @@ pub held-still : {A : Type 0} (s : Spaces) (at : ℕ) (r : Result A DeviceFault)
 held-still s at (Ok done) has = tt
 held-still s at (Err fault) has = (view_at s at, self-held s at has)
 
--- ---- a segment in a place
+-- ---- a segment in a slot
 
 abbrev marks_of : LoadSegment → Perm
 marks_of g = record { writable = g.writable; executable = g.executable; user = true; shared = false }
@@ -248,7 +248,7 @@ segment-loaded s {s1} s2 at file mem {count} has follows is added (Ok done) put 
 
 -- ---- the stack
 
--- a whole page is written over
+-- a whole page is overwritten
 page-over : {page : List ℕ} → length page ≡ 4096 → overwrite (zeros 4096) 0 page ≡ page
 unfolding zeros
 page-over {page} whole =

@@ -47,7 +47,7 @@ write-stack pages page at bytes some fits =
 
 -- ---- pushing
 
--- a stack whose page has these bytes from a place on
+-- a stack whose page has these bytes, down to offset `top`
 abbrev pub stack_with : Memory → List ℕ → ℕ → List ℕ → Stack
 stack_with pages page top pointers =
     record { memory = stacked pages page; sp = 4096 * (length pages + 1) + top; pointers = pointers }
@@ -64,7 +64,7 @@ pushed pages {old} {top} pointers {bytes} {place} inside some has =
     omega (arith, room, stands) in
     rw (sp, write-stack pages old place bytes some (omega (arith, room, stands, inside)), ← has.page) refl
 
--- what is pushed comes lower
+-- what is pushed lies lower
 push-low : (s : Stack) (bytes : List ℕ) → (push s bytes).sp ≤ s.sp
 unfolding push
 push-low s bytes = omega arith
@@ -78,20 +78,20 @@ pointers-low : (s : Stack) → (push_pointers s).sp ≤ s.sp
 unfolding push_pointers
 pointers-low s = push-low s _
 
--- without room it comes below the page
+-- without room it lies below the page
 push-under : (pages : Memory) (page : List ℕ) {top : ℕ} (pointers bytes : List ℕ) → top < length bytes
     → (push (stack_with pages page top pointers) bytes).sp < 4096 * (length pages + 1)
 unfolding push
 push-under pages page pointers bytes over = omega (arith, over)
 
--- and what comes below is refused
+-- and what lies below is refused
 refused-under : (pages : Memory) (pc argc : ℕ) (s : Stack) → s.sp < 4096 * (length pages + 1)
     → finished (4096 * (length pages + 2)) pc argc s ≡ None
 refused-under pages pc argc s under =
     let no : nat_le (4096 * (length pages + 2) - 4096) s.sp ≡ false = lt-leb _ _ (omega (arith, under)) in
     rw no refl
 
--- what is pushed last stands, or finds no room
+-- the last push is done, or finds no room
 finishes : (pages : Memory) (pc : ℕ) (page : List ℕ) (top : ℕ) (pointers : List ℕ) {bytes : List ℕ} {spelled : List ℕ}
     {n count base : ℕ} → top ≤ 4096 → 0 < length bytes → spelled ≡ bytes → n ≡ count → base ≡ 4096 * (length pages + 1)
     → (r : Option Arguments) → Finishes page top spelled count base r
@@ -110,7 +110,7 @@ finishes pages pc page top pointers {bytes} {n = n} inside some same number is (
 
 -- ---- the words and the strings that are left
 
--- what is made of the rest of the arguments
+-- the plan from the rest of the arguments
 abbrev pub ends : Memory → ℕ → ℕ → Stack → List (List ℕ) → Option Plan
 ends pages pc i s args = finished (4096 * (length pages + 2)) pc (i + length args) (push_pointers (push_strings s args))
 
@@ -148,7 +148,7 @@ words-more : (mem : Memory) (w : ℕ) (o : Option (List ℕ))
 words-more mem w None = sym (strings-none _)
 words-more mem w (Some ws) = refl
 
--- what comes of the first word
+-- the strings from the first word on
 abbrev by_word : Memory → ℕ → List ℕ → Option ℕ → Option (List (List ℕ))
 by_word mem n bytes None = None
 by_word mem n bytes (Some w) =
@@ -230,7 +230,7 @@ flat-more : (ps : List ℕ) (p : ℕ) → flat_map (le 8) (ps ++ p ∷ []) ≡ f
 flat-more ps p = flat_map-append (le 8) ps (p ∷ [])
     ∙ ap (λ l. flat_map (le 8) ps ++ l) (flat_map-cons (le 8) p [] ∙ append-nil (le 8 p))
 
--- a pointer more
+-- one more pointer
 spelled-more : (ps : List ℕ) {i : ℕ} (p : ℕ) → length ps ≡ i → i < 32
     → overwrite (flat_map (le 8) ps ++ zeros (256 - 8 * i)) (8 * i) (le 8 p) ≡ flat_map (le 8) (ps ++ p ∷ [])
     ++ zeros (256 - 8 * (i + 1))
@@ -256,7 +256,7 @@ spelled-all ps i count more =
     rw (long, take-append-add (flat_map (le 8) ps) (zeros (256 - 8 * i)) 8)
     (ap (λ l. flat_map (le 8) ps ++ l) (take-replicate 8 _ 0 (omega (arith, more))))
 
--- the pointers behind all strings
+-- the pointers after all strings
 ends-all : (pages : Memory) (pc : ℕ) (page : List ℕ) (pointers : List ℕ) {spelled : List ℕ} {i top base : ℕ}
     → top ≤ 4096 → length pointers ≡ i → i < 32 → spelled ≡ flat_map (le 8) pointers ++ zeros (256 - 8 * i)
     → base ≡ 4096 * (length pages + 1)
@@ -281,7 +281,7 @@ module _ {mem : Memory} {argv count i top : ℕ} {page spelled : List ℕ} (size
   word-is : word_in rest ≡ told
   word-is = sym (word ∙ ap word_in (reach-drop _ _ _ _ sized has.reached))
 
-  -- what is told of the rest
+  -- the rest, by the word that was read
   rest-is : (pages : Memory) (pc : ℕ) → length pages ≡ count → {o : Option ℕ} → told ≡ o
       → option_and_then (with_args pages pc) (args_at mem argv)
       ≡ option_and_then (ends pages pc i (stack pages)) (by_word mem (32 - (i + 1)) rest o)
@@ -312,7 +312,7 @@ module _ {mem : Memory} {argv count i top : ℕ} {page spelled : List ℕ} (size
         rw (no, ← is) (words-more _ w _) in
         rw (rest-is pages pc e some, made) refl
 
-    -- a string that can't be read, or isn't room for
+    -- a string that can't be read, or for which there is no room
     pub string-refused : (new : List ℕ) → PushesString mem w page new top None → Passes mem argv count None
     string-refused new over pages pc e = go (string_at mem w) refl where
       go : (o : Option (List ℕ)) → string_at mem w ≡ o → option_and_then (with_args pages pc) (args_at mem argv) ≡ None
@@ -321,7 +321,7 @@ module _ {mem : Memory} {argv count i top : ℕ} {page spelled : List ℕ} (size
           let low = push-under _ _ _ _ (omega (arith, over string is, length-append string (0 ∷ []))) in
           string-is _ pc e is ∙ string-more _ pc i _ _ _ ∙ none-under _ pc _ _ low _
 
-    -- a string more
+    -- one more string
     pub string-pushed : {new spelled' : List ℕ} {place base : ℕ} → PushesString mem w page new top (Some place)
         → base ≡ 4096 * (count + 1) → spelled' ≡ overwrite spelled (8 * i) (le 8 (base + place))
         → IsPushing mem argv count (i + 1) place new spelled'
@@ -374,7 +374,7 @@ one-refused over string is pages pc e =
     single pages pc string ∙ none-under pages pc 1 (push (stack_with pages (zeros 4096) 4096 []) (string ++ 0 ∷ []))
     (push-under pages (zeros 4096) [] (string ++ 0 ∷ []) (omega (arith, over, ap length is))) (Some [])
 
--- bytes that stand on the page, and their pointer
+-- bytes that are on the page, and their pointer
 pub one-passed : {bytes : List ℕ} (page spelled clear : List ℕ) {none : List ℕ} (top : ℕ) {count : ℕ} (base : ℕ)
     (r : Option Arguments) → clear ≡ zeros 4096 → none ≡ zeros 256 → HasPushed clear page 4096 bytes top
     → spelled ≡ overwrite none 0 (le 8 (base + top)) → base ≡ 4096 * (count + 1)

@@ -1,4 +1,4 @@
--- A program in the place of another.
+-- A program that replaces another.
 use Rattle.std.specs.Prelude.{None, Option, Some, length, option_and_then, ℕ, ◌+◌, ◌<◌, ◌≡◌, ◌≤◌}
 use Rattle.programs.specs.declared.executing.Started.{Started}
 use Rattle.spaces.specs.Spaces.{SpaceView, Spaces, view_at, taken_frames, with_view}

@@ -13,7 +13,7 @@ use Rattle.unixmodel.specs.Plan.{Loaded, load_segments, loaded_of, nothing_loade
 use Rattle.unixmodel.specs.ProcessCalls.{file_bytes}
 use Rattle.unixmodel.specs.Shown.{bytes_or_none}
 
--- a read leaves the files as they were, and this is told
+-- a read leaves the files as they were, and this is the result
 pub record IsRead {T : Type 0} (old new : FileTree) (told is : T) : Type 0 where
   pub same : new ≡ record old { failures = new.failures }
   pub value : told ≡ is
@@ -21,11 +21,11 @@ pub record IsRead {T : Type 0} (old new : FileTree) (told is : T) : Type 0 where
 abbrev pub Tells : {T : Type 0} → FileTree → FileTree → T → T → Type 0
 Tells old new is told = IsRead old new told is
 
--- and so is the program of a file, of 2^52 pages at the most
+-- the same for the program of a file, of at most 2^52 pages
 abbrev pub TellsProgram : FileTree → FileTree → Option Program → Option Program → Type 0
 TellsProgram old new is told = IsRead old new told is × IfSome told (λ program. program.pages ≤ 2 ^ 52)
 
--- the bytes that a number names
+-- the bytes of the node with a number
 abbrev pub file_at : Files → ℕ → List ℕ
 file_at files n = bytes_or_none (slot files n)
 
@@ -37,13 +37,13 @@ abbrev pub program_in : List ℕ → Option Program
 program_in file = option_map (λ (l : Loaded). record { header = header_in file; pages = length l.pages })
     (loaded_of file)
 
--- the program of what a number names, where that is a file
+-- the program of the node with a number, where that is a file
 abbrev pub program_at : Files → ℕ → Option Program
 program_at files number = option_and_then program_in (file_bytes (slot files number))
 
 -- ---- the steps to it
 
--- so many bytes of a file, from a place on
+-- `count` bytes of a file, from an offset on
 abbrev pub part_of : FileTree → ℕ → ℕ → ℕ → List ℕ
 part_of tree number offset count = part offset count (file_of tree number)
 
@@ -62,13 +62,13 @@ unless_refused (Err fault) = None
 abbrev pub headed : List ℕ → Option FileHeader
 headed file = unless_refused (header_of (take 64 file) (length file))
 
--- where what is loaded ends behind a program header
+-- where what is loaded ends after a program header
 abbrev pub end_by : ℕ → Result (Option LoadSegment) ElfFault → Option ℕ
 end_by end (Err fault) = None
 end_by end (Ok None) = Some end
 end_by end (Ok (Some g)) = Some (g.address + g.size)
 
--- what a program header asks for
+-- the segment that a program header describes
 abbrev pub segment_behind : List ℕ → ℕ → ℕ → Result (Option LoadSegment) ElfFault
 segment_behind file at end = segment_of (take 56 (drop at file)) end (length file)
 

@@ -17,13 +17,13 @@ abbrev pub plan_with : Memory → ℕ → Arguments → Plan
 plan_with pages pc a = record
     { memory = stacked pages a.page; size = 4096 * (length pages + 2); pc = pc; argc = a.count; sp = a.sp }
 
--- a program of so many pages gets these arguments, or none can be given to it
+-- a program of `count` pages gets these arguments, or none can be passed to it
 abbrev pub Passes : Memory → ℕ → ℕ → Option Arguments → Type 0
 Passes mem argv count told = (pages : Memory) (pc : ℕ) → length pages ≡ count
     → option_and_then (with_args pages pc) (args_at mem argv) ≡ option_map (plan_with pages pc) told
 
--- a program of so many pages gets a string as its only argument, or it can't be given to it; these bytes are the string
--- and its NUL
+-- a program of `count` pages gets a string as its only argument, or it can't be passed to it; these bytes are the
+-- string and its NUL
 abbrev pub PassesOne : List ℕ → ℕ → Option Arguments → Type 0
 PassesOne bytes count told = (string : List ℕ) → bytes ≡ string ++ 0 ∷ [] → (pages : Memory) (pc : ℕ)
     → length pages ≡ count → with_args pages pc (string ∷ []) ≡ option_map (plan_with pages pc) told
@@ -34,7 +34,7 @@ PassesOne bytes count told = (string : List ℕ) → bytes ≡ string ++ 0 ∷ [
 abbrev pub word_in : List ℕ → Option ℕ
 word_in bytes = if nat_lt (length (take 8 bytes)) 8 then None else Some (number_at 8 0 bytes)
 
--- bytes are pushed to a place of a page
+-- bytes are pushed to an offset of a page
 pub record HasPushed (old new : List ℕ) (top : ℕ) (bytes : List ℕ) (place : ℕ) : Type 0 where
   pub fits : length bytes ≤ top
   pub stands : place ≡ round_down (top - length bytes) 16

@@ -1,4 +1,4 @@
-//! The arguments of a program, as they stand on its stack.
+//! The arguments of a program, as they lie on its stack.
 
 ghost use Rattle.std.specs.Prelude.{◌≡◌, ◌*◌, ◌+◌, ◌<◌, ◌≤◌, ◌^◌, length, take, true};
 ghost use Rattle.programs.specs.Passed.{Finishes, Passes, PassesOne, Pushes, PushesString, word_in};
@@ -12,7 +12,7 @@ use ram::FRAME_SIZE;
 use spaces::Spaces;
 use sv39::Translate;
 
-// The words of argv that are looked at: one of them is 0.
+// How many words of argv are read at most: one of them must be 0.
 const WORDS: usize = 32;
 
 /// The arguments of a program on its stack.
@@ -26,7 +26,7 @@ pub struct Arguments {
     pub page: [u8; FRAME_SIZE],
 }
 
-// The word of 8 bytes at an address of a place; `None` where its program may not read it.
+// The word of 8 bytes at an address of a slot; `None` where its program may not read it.
 fn word_at<T: Translate>(spaces: &Spaces<T>, at: usize, address: u64) -> Option<u64>
     requires { has_space spaces.now at ≡ true }
     ensures { result ≡ word_in (reach Load (view_at spaces.now at).memory address) }
@@ -38,9 +38,8 @@ fn word_at<T: Translate>(spaces: &Spaces<T>, at: usize, address: u64) -> Option<
     Some(LittleEndian::read_u64(&bytes))
 }
 
-// Pushes bytes on a stack that reaches down to `top` in its page, and tells where they stand: at a multiple of 16.
-// `None`:
-// there is no room for them.
+// Pushes bytes on a stack that reaches down to `top` in its page, and returns their offset: a multiple of 16.
+// `None`: there is no room for them.
 fn push(page: &mut [u8; FRAME_SIZE], top: usize, bytes: &[u8]) -> Option<usize>
     requires { top ≤ 4096 }
     ensures { Pushes page.old page.new top bytes.now result }
@@ -53,7 +52,7 @@ fn push(page: &mut [u8; FRAME_SIZE], top: usize, bytes: &[u8]) -> Option<usize>
     Some(place)
 }
 
-// Pushes the string at an address of a place with its NUL, and tells where it stands. `None`: its program may not read
+// Pushes the string at an address of a slot with its NUL, and returns its offset. `None`: its program may not read
 // it, or there is no room for it.
 fn push_string<T: Translate>(
     spaces: &Spaces<T>,
@@ -77,7 +76,7 @@ fn push_string<T: Translate>(
     push(page, top, &string[..len + 1])
 }
 
-// Puts a pointer behind those that are there.
+// Writes a pointer after those that are there.
 fn put_pointer(pointers: &mut [u8; 8 * WORDS], n: usize, pointer: u64)
     requires { n < 32 }
     ensures { pointers.new ≡ overwrite pointers.old (8 * n) (le 8 pointer) }
@@ -85,7 +84,7 @@ fn put_pointer(pointers: &mut [u8; 8 * WORDS], n: usize, pointer: u64)
     pointers[8 * n..8 * n + 8].copy_from_slice(&pointer.to_le_bytes());
 }
 
-// Pushes the pointers and the 0 word behind them. `None`: there is no room for them.
+// Pushes the pointers and the 0 word after them. `None`: there is no room for them.
 fn finish(
     page: &[u8; FRAME_SIZE],
     top: usize,
@@ -109,7 +108,7 @@ fn finish(
     })
 }
 
-/// The arguments that argv points at in a place, as they stand on the stack of a program whose segments have so many
+/// The arguments that argv points at in a slot, as they lie on the stack of a program whose segments have `pages`
 /// pages.
 /// `None` where there are more than 31, a word or a string can't be read, or the stack's page has no room for them.
 pub fn read_arguments<T: Translate>(
@@ -143,8 +142,8 @@ pub fn read_arguments<T: Translate>(
     None
 }
 
-/// A string, which these bytes are with its NUL, as the only argument: as it stands on the stack of a program whose
-/// segments have so many pages. `None` where the stack's page has no room for it.
+/// A string, which these bytes are with its NUL, as the only argument: as it lies on the stack of a program whose
+/// segments have `pages` pages. `None` where the stack's page has no room for it.
 pub fn one_argument(bytes: &[u8], pages: u64) -> Option<Arguments>
     requires fits { 4096 * (pages + 2) < 2 ^ 64 }
     ensures { PassesOne bytes.now pages result }

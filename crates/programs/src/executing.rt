@@ -1,4 +1,4 @@
-//! A program in the place of another.
+//! A program that replaces another.
 
 ghost use Rattle.std.specs.Prelude.{◌≡◌, IfOk, OnErr, Some, false, true};
 ghost use Rattle.programs.specs.Executed.{Executes};
@@ -15,7 +15,7 @@ use spaces::Spaces;
 use sv39::Translate;
 use tree::Tree;
 
-/// What a program begins with.
+/// How a program begins.
 #[derive(Clone, Copy)]
 pub struct Started {
     /// The address of its first instruction.
@@ -26,10 +26,9 @@ pub struct Started {
     pub sp: u64,
 }
 
-/// Puts the program of the file that a number names in the place of what a place holds, with the arguments that argv
-/// points at there, and tells what it begins with. `None`: it can't be executed, or the frames don't suffice for it
-/// beside the old one;
-/// then nothing changed. Where the device fails no more is promised of the place than that it has a space.
+/// Replaces what a slot holds by the program of the file that a number names, with the arguments that argv points at
+/// there, and returns how it begins. `None`: it can't be executed, or the frames don't suffice for it beside the old
+/// one; then nothing changed. Where the device fails nothing more is promised of the slot than that it has a space.
 pub fn execute<D: BlockDev, T: Translate>(
     tree: &mut Tree<D>,
     spaces: &mut Spaces<T>,

@@ -16,7 +16,7 @@ use tree::{FILE, Tree};
 /// A program, by what the headers of its file say.
 #[derive(Clone, Copy)]
 pub struct Program {
-    /// Where it begins, and where its program headers stand.
+    /// Where it begins, and where its program headers are.
     pub header: FileHeader,
     /// How many pages its segments have, and the gaps between them.
     pub pages: u64,
@@ -34,7 +34,7 @@ impl Program {
     }
 }
 
-// The bytes of a file from a place on, all of which it has.
+// The bytes of a file from an offset on, all of which it has.
 pub(crate) fn read_part<D: BlockDev>(
     tree: &mut Tree<D>,
     number: usize,
@@ -70,7 +70,7 @@ fn read_header<D: BlockDev>(
     Ok(header(&bytes, u64::from(len)).ok())
 }
 
-// What the program header at a place asks for behind what ends at address `end`, where the file has it.
+// The segment of the program header at an offset, after what ends at address `end`, where the file has the header.
 pub(crate) fn read_segment<D: BlockDev>(
     tree: &mut Tree<D>,
     number: usize,
@@ -90,7 +90,7 @@ pub(crate) fn read_segment<D: BlockDev>(
     Ok(segment(&bytes, end, u64::from(len)))
 }
 
-// Where what is loaded ends behind the program header at a place, which the file has; `None` where it is refused.
+// Where what is loaded ends after the program header at an offset, which the file has; `None` where it is refused.
 fn read_end<D: BlockDev>(
     tree: &mut Tree<D>,
     number: usize,

@@ -1,4 +1,4 @@
-//! What exec makes of a program file and its arguments, and how the program comes into memory.
+//! What exec makes of a program file and its arguments, and how the program is loaded into memory.
 #![tactic(auto)]
 
 mod arguments;

@@ -1,4 +1,4 @@
-//! How a program comes into the memory of a place.
+//! How a program is loaded into the memory of a slot.
 
 ghost use Rattle.std.specs.Prelude.{◌≡◌, ◌*◌, ◌+◌, ◌<◌, ◌≤◌, ◌^◌, IfOk, OnErr, OnOk, Some, length, replicate, false};
 ghost use Rattle.std.specs.Prelude.{true};
@@ -40,7 +40,7 @@ const STACK: Perm = Perm {
     u: true,
 };
 
-/// All pages of a place go.
+/// Removes all pages of a slot.
 pub fn clear<T: Translate>(spaces: &mut Spaces<T>, at: usize)
     requires { has_space spaces.old at ≡ true }
     ensures { spaces.new ≡ with_view spaces.old at no_pages }
@@ -49,7 +49,7 @@ pub fn clear<T: Translate>(spaces: &mut Spaces<T>, at: usize)
     spaces.shrink(at, size);
 }
 
-// Adds so many pages of zeros, for which there are frames.
+// Adds `count` pages of zeros, for which there are frames.
 fn add_pages<T: Translate>(spaces: &mut Spaces<T>, at: usize, count: u64, perm: Perm)
     requires space { has_space spaces.old at ≡ true }
     requires paged { IsPaged (view_at spaces.old at) }
@@ -62,7 +62,7 @@ fn add_pages<T: Translate>(spaces: &mut Spaces<T>, at: usize, count: u64, perm: 
     }
 }
 
-// Reads as many bytes of a file as fit in a buffer, all of which it has, and puts them into the pages of a place.
+// Reads as many bytes of a file as fit in a buffer, all of which it has, and writes them into the pages of a slot.
 fn fill_piece<D: BlockDev, T: Translate>(
     tree: &mut Tree<D>,
     spaces: &mut Spaces<T>,
@@ -87,7 +87,7 @@ fn fill_piece<D: BlockDev, T: Translate>(
     Ok(())
 }
 
-// Puts bytes of a file, which it has, into the pages of a place from an address on, whatever their marks.
+// Writes bytes of a file, which it has, into the pages of a slot from an address on, whatever their marks.
 fn fill_node<D: BlockDev, T: Translate>(
     tree: &mut Tree<D>,
     spaces: &mut Spaces<T>,
@@ -121,7 +121,7 @@ fn fill_node<D: BlockDev, T: Translate>(
     Ok(())
 }
 
-// Brings a segment of a file behind the pages of a place: those of the gap before it come too.
+// Loads a segment of a file after the pages of a slot, with the pages of the gap before it.
 fn load_segment<D: BlockDev, T: Translate>(
     tree: &mut Tree<D>,
     spaces: &mut Spaces<T>,
@@ -159,7 +159,7 @@ fn load_segment<D: BlockDev, T: Translate>(
     fill_node(tree, spaces, at, number, offset, address, file_size)
 }
 
-// Loads what the program header at a place asks for, which isn't refused, and tells where it ends.
+// Loads the segment of the program header at an offset, which isn't refused, and returns where it ends.
 fn load_next<D: BlockDev, T: Translate>(
     tree: &mut Tree<D>,
     spaces: &mut Spaces<T>,
@@ -192,7 +192,7 @@ fn load_next<D: BlockDev, T: Translate>(
     }
 }
 
-// Loads the segments of a file, none of which is refused, into a place without pages.
+// Loads the segments of a file, none of which is refused, into a slot without pages.
 fn load_segments<D: BlockDev, T: Translate>(
     tree: &mut Tree<D>,
     spaces: &mut Spaces<T>,
@@ -220,7 +220,7 @@ fn load_segments<D: BlockDev, T: Translate>(
     Ok(())
 }
 
-/// A guard page and a page for the stack, which has these bytes, come behind the pages of a place.
+/// Adds a guard page and a page for the stack, which has these bytes, after the pages of a slot.
 pub fn add_stack<T: Translate>(spaces: &mut Spaces<T>, at: usize, page: &[u8; FRAME_SIZE])
     requires space { has_space spaces.old at ≡ true }
     requires paged { IsPaged (view_at spaces.old at) }
@@ -233,8 +233,8 @@ pub fn add_stack<T: Translate>(spaces: &mut Spaces<T>, at: usize, page: &[u8; FR
     spaces.fill(at, (pages + 1) * FRAME_SIZE as u64, page);
 }
 
-/// Puts a program with its arguments in the place of what a place holds. Where the device fails no more is promised of
-/// that place than that it has a space.
+/// Replaces what a slot holds by a program with its arguments. Where the device fails nothing more is promised of
+/// that slot than that it has a space.
 pub fn load<D: BlockDev, T: Translate>(
     tree: &mut Tree<D>,
     spaces: &mut Spaces<T>,
