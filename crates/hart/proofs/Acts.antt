@@ -11,7 +11,7 @@ pub turned-leaves : (effect : Effect) (answers : Answers) (next : Next) (pc : �
 turned-leaves (Ok d) answers next pc old new ram h = (h.0, h.1, h.2, h.3, ap (stored ram answers) (sym h.4))
 turned-leaves (Err t) answers next pc old new ram h = (h.0, h.1, refl)
 
--- whatever is answered
+-- whatever the translator returns
 acts-unanswered : {held : Held} {meaning : Sight → Effect} {next : Next} {pc : ℕ} {old new : Hart} {ram : Ram}
     → ((answers : Answers) → Leaves (meaning (seen ram answers)) answers next pc old new ram ram)
     → Acts held held meaning next pc old new ram ram
@@ -23,7 +23,7 @@ acts-unanswered {old} {ram} does = record {
   count = refl;
 }
 
--- the meaning looks at one access alone, and was answered so
+-- the meaning looks at one access alone, with this result of the translator
 acts-answered : {held held' : Held} {meaning : Sight → Effect} {next : Next} {pc : ℕ} {old new : Hart} {ram ram' : Ram}
     {access : Access} {address : ℕ} (o : Option ℕ)
     → IsAnswer held ram old.root.0 address access (option_map (place_in address) o) → IsKept held held' ram old.root.0
@@ -52,7 +52,7 @@ has_no_access (op.Sw rs1 rs2 i) = false
 has_no_access (op.Sd rs1 rs2 i) = false
 has_no_access o = true
 
--- what is seen by what looks at nothing
+-- the sight of what looks at nothing
 abbrev pub blind : Sight
 blind access address = None
 

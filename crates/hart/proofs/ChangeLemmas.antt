@@ -135,7 +135,7 @@ stored-entry ram mapping {address} is =
     allowed-entry _ (slice_get mapping (address / 4096))
     (ap (permitted Store) (sym (slice_get-map (page_in ram) mapping (address / 4096))) ∙ is.found)
 
--- in the memory's own words
+-- in terms of the memory
 changed-put : (ram : Ram) (mapping : List Mapped) (address : ℕ) (bytes : List ℕ) (e : Mapped)
     → slice_get mapping (address / 4096) ≡ Some e
     → changed ram mapping (Bytes address bytes) ≡ put ram e.frame (address % 4096) bytes
@@ -271,7 +271,7 @@ pub memory_of-cycle : (ram : Ram) (mapping : List Mapped) (regs : List ℕ) (pc 
     → memory_of (changed ram mapping d.change) mapping ≡ memory_after (memory_of ram mapping) d.change
 memory_of-cycle ram mapping regs pc d sound h = memory_of-changed d.change sound (cycle-stores _ pc _ d h)
 
--- ---- what a caller of a step goes on with
+-- ---- for the caller of a step
 
 -- an instruction was done
 pub record IsDone (effect : Effect) (mapping : List Mapped) (result : Option Trap) (old new : Hart) (ram ram' : Ram)
@@ -301,7 +301,7 @@ follows-cases (Ok d) mapping result old new ram ram' h =
 follows-cases (Err t) mapping result old new ram ram' h =
     inr (record { cause = t; is = refl; result_is = h.0; hart = h.1; memory = h.2 })
 
--- a step writes one frame of the mapping at most, and only where its page may be written
+-- a step writes at most one frame of the mapping, and only where its page may be written
 pub follows-only : (regs : List ℕ) (pc : ℕ) (mapping : List Mapped) (result : Option Trap) (old new : Hart)
     (ram ram' : Ram) → IsMemory ram → IsSound ram mapping
     → Follows (cycle regs pc (memory_of ram mapping)) mapping result old new ram ram' → WritesOnly ram mapping ram'
@@ -440,7 +440,7 @@ cycle-retries regs pc low high h = elim (cycle-sees _ pc) [
   ]
 ]
 
--- ---- once more, where the store is let through then
+-- ---- again, where the store is let through then
 
 abbrev fault_at : Effect → ℕ
 fault_at (Ok d) = 0

@@ -1,4 +1,4 @@
--- The names that the lemmas of this crate import from elsewhere, passed on from one place. Declares nothing.
+-- The names from elsewhere that the lemmas of this crate import, in one file. Declares nothing.
 pub use Rattle.std.proofs.Common.{◌%◌, ◌&&◌, ◌*◌, ◌+◌, ◌++◌, ◌-◌, ◌/◌, ◌<◌, ◌==◌, [], ◌^◌, ap, append_assoc, arith}
 pub use Rattle.std.proofs.Common.{Bool, cond, drop, Err, false, get_or, get_or-set_other, get_or-set_same, inl, inr}
 pub use Rattle.std.proofs.Common.{length, length-set, List, None, Ok, Option, refl, rules, set, slice_index_or}

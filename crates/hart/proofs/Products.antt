@@ -1,4 +1,4 @@
--- That products fit into 128 bits.
+-- Products fit into 128 bits.
 use Rattle.hart.proofs.Common.{arith, cast_signed, FitsSigned, pos, unsigned_abs, w128, w64, ℕ, ◌*ℤ◌, ◌-◌, ◌<◌, ◌^◌}
 use Rattle.hart.proofs.Common.{◌≤◌}
 use Rattle.std.proofs.lemmas.Int.{fits_signed_mul, ints}

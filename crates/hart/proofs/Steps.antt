@@ -1,4 +1,4 @@
--- Steps whose accesses a translator answers.
+-- Steps whose accesses a translator serves.
 use Rattle.hart.proofs.Common.{Ram, Access, Acts, allowed, At, Behind, Leaves, Next, pc_after, Stop, trap_of, word_in}
 use Rattle.hart.proofs.Common.{ap, cond, false, Held, HoldsInside, inl, inr, IsKept, List, Mapped, memory_of, None}
 use Rattle.hart.proofs.Common.{Option, option_map, page_for, page_in, permits, permitted, refl, slice_get}
@@ -40,7 +40,7 @@ inside-kept ram inside kept t h =
           now.1
     ]
 
--- ---- an answer
+-- ---- one result of a translator
 
 frame_in : (va : ℕ) {frame pa : ℕ} → pa ≡ place_in va frame → pa / 4096 - 0x80000 ≡ frame
 frame_in va is = omega (arith, is)
@@ -51,7 +51,7 @@ walked-frame va None h = absurd (cc)
 walked-frame va {pa} (Some f) h =
     ap (λ n. Some (place_in va n)) (frame_in va cc)
 
--- an address that was answered is a place in a frame
+-- an address that was returned is an offset in a frame
 pub answered-frame : (held : Held) (ram : Ram) {root : ℕ} (va : ℕ) {pa : ℕ} {access : Access}
     → IsAnswer held ram root va access (Some pa)
     → IsAnswer held ram root va access (Some (place_in va (pa / 4096 - 0x80000)))
@@ -59,7 +59,7 @@ answered-frame held ram {root} va {pa} {access} (inl now) = inl (walked-frame va
 answered-frame held ram va {pa} (inr kept) =
     inr (kept.0, kept.1, ap (λ n. Some (place_in va n)) (frame_in va (cc kept.2)))
 
--- what may be answered later may be answered before
+-- what may be returned later may be returned earlier
 answered-kept : {old new : Held} (ram : Ram) {root : ℕ} (va : ℕ) {access : Access} {answer : Option ℕ}
     → IsKept old new ram root → IsAnswer new ram root va access answer → IsAnswer old ram root va access answer
 answered-kept ram va kept (inl walked) = inl walked
@@ -69,7 +69,7 @@ answered-kept ram {root} va {access} kept (inr held) =
       | inr now ↦ inl (held.2 ∙ ap (option_map (place_in va)) (sym now.1))
     ]
 
--- ---- answers
+-- ---- the results of a translator
 
 -- those of the walk
 abbrev pub walked : Ram → ℕ → Answers
@@ -92,7 +92,7 @@ same-self Fetch = refl
 same-self Load = refl
 same-self Store = refl
 
--- with another answer to one access
+-- with another result for one access
 abbrev pub with_answer : Access → ℕ → Option ℕ → Answers → Answers
 with_answer access address o answers a b = if same access a && (address == b) then o else answers a b
 
@@ -120,7 +120,7 @@ with_answer-allowed held ram {root} {access} address o answers allowed is a b =
     subst P (same-is access a both.0) (subst Q (eqb-true address b both.1) is))
     (allowed a b)
 
--- some allowed answers have this one
+-- some allowed results have this one
 pub one-answer : (held : Held) (ram : Ram) {root : ℕ} {access : Access} {address : ℕ} {o : Option ℕ}
     → IsAnswer held ram root address access (option_map (place_in address) o)
     → (answers : Answers) × AreAllowed held ram root answers × (answers access address ≡ o)
@@ -149,7 +149,7 @@ step-unfetched {held} {ram} is =
     let one = one-answer held ram {o = None} is in
     record { answers = one.0; allowed = one.1; does = rw one.2 (refl, refl, refl) }
 
--- but for a fetch a word looks at the same answers
+-- except for a fetch a word looks at the same results
 act_by-fetch : (i : Instr) (regs : List ℕ) (pc at : ℕ) (ram : Ram) (o : Option ℕ) (answers : Answers)
     → act_by i regs pc (seen ram (with_answer Fetch at o answers)) ≡ act_by i regs pc (seen ram answers)
 unfolding act_by
@@ -203,7 +203,7 @@ step-done {held} {ram} {ram'} {old} {hart} {new} next f is kept acts arrives =
           old.pc old hart new ram ram' acts.does arrives);
     }
 
--- ---- where all allowed answers are a mapping's
+-- ---- where all allowed results are a mapping's
 
 pub place-frame : (va : ℕ) (o p : Option ℕ) → option_map (place_in va) o ≡ option_map (place_in va) p → o ≡ p
 place-frame va None None h = refl
@@ -266,7 +266,7 @@ fetched_by-alike (Some o) (Some p) regs pc see mem same h =
     ∙ word_by-alike _ _ pc _ _ h
 fetched_by-alike _ _ regs pc see mem same h = absurd (cc same)
 
--- what is seen alike means alike
+-- the same sight means the same
 cycle_by-alike : (regs : List ℕ) (pc : ℕ) (see : Sight) (mem : Memory)
     → ((access : Access) (address : ℕ) → Alike (see access address) (page_for access mem address))
     → cycle_by regs pc see ≡ cycle regs pc mem
@@ -297,7 +297,7 @@ does-follows (Ok d) mapping {answers} result old new ram ram' shown stores h =
     (h.0, h.1, h.2, h.3, h.4 ∙ stored-changed _ _ d.change shown (stores d refl))
 does-follows (Err t) mapping result old new ram ram' shown stores h = h
 
--- a step is the cycle on the memory of each mapping that all allowed answers agree with
+-- a step is the cycle on the memory of each mapping that all allowed results agree with
 pub step-follows : {held : Held} (mapping : List Mapped) {result : Option Trap} {old new : Hart} {ram ram' : Ram}
     → Shows held ram old.root.0 mapping
     → IsStep held (cycle_by old.registers old.pc) result old new ram ram'

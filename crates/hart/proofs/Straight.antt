@@ -1,4 +1,4 @@
--- Operations of a page, one after the other; places in a page, and the words there.
+-- Operations of a page, one after the other; indexes of words in a page, and the words there.
 use Rattle.hart.proofs.Common.{Ram, Access, act_word, Acts, Answers, ap, changed, Computed, cycle, Effect, Err, Fetch}
 use Rattle.hart.proofs.Common.{fetched, frame_for, Goes, Hart, Held, HoldsInside, inl, inr, instruction_of}
 use Rattle.hart.proofs.Common.{InstructionPageFault, IsAnswer, IsKept, IsMemory, Leaves, List, Mapped, Memory}
@@ -15,7 +15,7 @@ use Rattle.hart.proofs.Steps.{page_for-memory_of, place-frame, seen-alike, shown
 use Rattle.ram.specs.declared.FrameNo.{FrameNo}
 use Rattle.hart.proofs.Bytes.{number_of_word}
 
--- ---- what holds of a program that has come so far
+-- ---- what holds of a program that was run so far
 
 module _ {held : Held} {root : ℕ} {mapping : List Mapped} {stops : List ℕ} {n : ℕ} {first now : Point}
     (g : Goes held root mapping stops n first now) where
@@ -32,7 +32,7 @@ module _ {held : Held} {root : ℕ} {mapping : List Mapped} {stops : List ℕ} {
     count = g.count;
   }
 
-  -- an answer to a fetch is the mapping's
+  -- a translator's result for a fetch is the mapping's
   frame-found : (o : Option ℕ) → IsAnswer held now.ram root now.pc Fetch (option_map (place_in now.pc) o)
       → frame_for mapping (now.pc / 4096) Fetch ≡ o
   frame-found o is = sym (place-frame _ o (frame_for mapping (now.pc / 4096) Fetch)
@@ -92,7 +92,7 @@ leaves-not (Err s) answers next pc old new {t} some h =
     let same : s ≡ t = cc (some, h.0) in
     (ap Err same, ap (λ (hart : Hart). hart.registers) h.1, h.2)
 
--- the word at a pc is done by what a translator answers
+-- the word at a pc is done by what a translator returns
 module _ {held held' : Held} {mapping : List Mapped} {stops : List ℕ} {n : ℕ} {first : Point} {next : Next} {pc f : ℕ}
     {old new : Hart} {ram ram' : Ram} (g : Goes held old.root.0 mapping stops n first (point_at old pc ram))
     (at : frame_for mapping (pc / 4096) Fetch ≡ Some f)
@@ -132,7 +132,7 @@ module _ {held held' : Held} {mapping : List Mapped} {stops : List ℕ} {n : ℕ
         count = acts.count ∙ g.count;
       }
 
-  -- none is, for a trap
+  -- none is done, because of a trap
   goes-not : (t : Trap) → trap_of next ≡ Some t
       → Goes held' old.root.0 mapping stops n first (point_at new pc ram')
       × (cycle new.registers pc (memory_of ram' mapping) ≡ Err t)
@@ -149,7 +149,7 @@ acts-inside {ram} acts inside t holds = elim (acts.kept t holds) [
   | inr now ↦ rw acts.count (walk_page-inside ram t.root t.page t.access t.frame now.1)
 ]
 
--- ---- places
+-- ---- indexes
 
 pc-whole : {base k : ℕ} → base % 4096 ≡ 0 → base < 2 ^ 64 → k < 1024 → pc_at base k ≡ base + 4 * k
 pc-whole even small within = omega (arith, even, small, within)
@@ -160,7 +160,7 @@ pc-page {base} k even small within = rw (pc-whole even small within) (omega (ari
 pc-place : {base : ℕ} (k : ℕ) → base % 4096 ≡ 0 → base < 2 ^ 64 → k < 1024 → pc_at base k % 4096 ≡ 4 * k
 pc-place {base} k even small within = rw (pc-whole even small within) (omega (arith, even, within))
 
--- an address that is that of a place tells the page and the place
+-- an address determines its page and the index there
 pub place-of : {base address : ℕ} (j : ℕ) → base % 4096 ≡ 0 → base < 2 ^ 64 → j < 1024 → address ≡ pc_at base j
     → (address / 4096 * 4096 ≡ base) × (address % 4096 / 4 ≡ j)
 place-of j even small within e =
@@ -171,7 +171,7 @@ place-of j even small within e =
 pc-next : (base k : ℕ) → plus (pc_at base k) 4 ≡ pc_at base (k + 1)
 pc-next base k = omega arith
 
--- the place of a pc in its page
+-- the index of a pc in its page
 pub pc-of : {base pc k : ℕ} → pc < 2 ^ 64 → pc % 4 ≡ 0 → pc / 4096 * 4096 ≡ base → k ≡ pc % 4096 / 4 → pc_at base k ≡ pc
 pc-of small even page place = omega (arith, small, even, page, place)
 
@@ -202,12 +202,12 @@ acts-worded o f {next} {pc} {old} {new} {ram} {ram'} is same acts =
 
 -- ---- stops
 
--- fewer places are clear, too
+-- a shorter range is clear, too
 pub less-clear : (stops : List ℕ) (base : ℕ) {from to end : ℕ} → to ≤ end → IsClear stops base from end
     → IsClear stops base from to
 less-clear stops base within clear j more less = clear j more (omega (arith, within, less))
 
--- one more address, which is that of no place up to there
+-- one more address, which is at no index up to there
 pub clear-more : (stops : List ℕ) (i base k end to : ℕ) → i < length stops → IsClear (take i stops) base k end
     → to ≤ end → ((j : ℕ) → k < j → j < to → get_or stops i 0 ≡ pc_at base j → ⊥)
     → IsClear (take (i + 1) stops) base k to
@@ -217,7 +217,7 @@ clear-more stops i base k end to within clear before other j more less =
     ne_eqb (get_or stops i 0) (pc_at base j) (other j more less) in
     list_any_more (λ s. s == pc_at base j) stops i 0 within ∙ rw (first, last) refl
 
--- after the first place none is at a stop
+-- after the first index none is at a stop
 clear-past : (stops : List ℕ) (base : ℕ) {from k : ℕ} (n : ℕ) → from ≤ k → IsClear stops base from (k + 1)
     → IsPast stops n (pc_at base from) → IsPast stops (n + (k - from)) (pc_at base k)
 clear-past stops base {from} {k} n since clear past more = elim (cases_lt from k) [
@@ -242,7 +242,7 @@ behind-then stops (inr first) (inr none) =
 
 -- ---- the operations of a page, in their order
 
--- those from a place up to another are done
+-- the words from one index to another are done
 pub record GoesStraight (held held' : Held) (old new : Hart) (ram ram' : Ram) (base from k f : ℕ) : Type 0 where
   pub whole : StaysWhole held' old new ram ram'
   pub goes : (mapping : List Mapped) (stops : List ℕ) → frame_for mapping (base / 4096) Fetch ≡ Some f
@@ -271,7 +271,7 @@ whole-after {held'} {held''} {meaning} {next} {pc} {old} {new} {ram'} {ram''} wh
   root = acts-root (meaning (seen ram' acts.answers)) acts.answers next pc old new ram' ram'' acts.does ∙ whole.root;
 }
 
--- the operation at the next place comes to this
+-- the effect of the operation at the next index
 module _ {held held' held'' : Held} {next : Next} {first old new : Hart} {ram ram' ram'' : Ram} {base from k f : ℕ}
     (even : base % 4096 ≡ 0) (small : base < 2 ^ 64) (within : k < 1024)
     (straight : GoesStraight held held' first old ram ram' base from k f)
@@ -285,7 +285,7 @@ module _ {held held' held'' : Held} {next : Next} {first old new : Hart} {ram ra
   place-found : frame_for mapping (pc_at base k / 4096) Fetch ≡ Some f
   place-found = rw (pc-page k even small within) at
 
-  -- one more is done, and the program is elsewhere or goes on
+  -- one more is done, and the program jumps or goes on
   pub straight-on : IsMemory ram' → trap_of next ≡ None → from ≤ k → IsClear stops base from (k + 1)
       → GoesOn held held'' first.root.0 mapping stops (point_at first (pc_at base from) ram)
       (point_at new (pc_after next (pc_at base k)) ram'') (k - from + 1) None
@@ -299,7 +299,7 @@ module _ {held held' held'' : Held} {next : Next} {first old new : Hart} {ram ra
         tt,
       )
 
-  -- none is
+  -- none is done
   pub straight-stops : {t : Trap} → trap_of next ≡ Some t → IsClear stops base from k
       → GoesOn held held'' first.root.0 mapping stops (point_at first (pc_at base from) ram)
       (point_at new (pc_at base k) ram'') (k - from) (Some t)
@@ -307,7 +307,7 @@ module _ {held held' held'' : Held} {next : Next} {first old new : Hart} {ram ra
       rw (← root-first) (goes-not (rw (← root-first) at (straight.goes mapping stops at clear n start past g).0)
       place-found acts t some)
 
--- the next place
+-- the next index
 pub straight-more : {held held' held'' : Held} {first old new : Hart} {ram ram' ram'' : Ram} {base from k f : ℕ}
     → IsMemory ram' → base % 4096 ≡ 0 → base < 2 ^ 64 → k < 1024 → from ≤ k
     → GoesStraight held held' first old ram ram' base from k f
@@ -321,7 +321,7 @@ straight-more {base} {from} {k} is even small within since straight acts = recor
       rw (count, ← pc-next base k) (straight-on even small within straight acts mapping stops at is refl since clear);
 }
 
--- ---- one run behind another
+-- ---- one run after another
 
 goes-then : {a b d : Held} {root : ℕ} {mapping : List Mapped} {stops : List ℕ} {old mid new : Point} (x y : ℕ)
     (stopped : Option Trap) → IsBehind stops x old.pc mid.pc
@@ -337,7 +337,7 @@ pub goes-none : {held : Held} {root : ℕ} {mapping : List Mapped} {stops : List
     → GoesOn held held root mapping stops point point x None
 goes-none {x} none n first past g = (let same : n + x ≡ n = omega (arith, none) in rw same g, tt)
 
--- of so many some are left
+-- some of `count` are left
 pub record GoesLeft (held held' : Held) (stops : List ℕ) (old new : Hart) (pc : ℕ) (ram ram' : Ram) (count left : ℕ)
     (f : ℕ) : Type 0 where
   pub whole : StaysWhole held' old new ram ram'
@@ -350,7 +350,7 @@ pub whole-then : {b d : Held} {first mid new : Hart} {ram ram' ram'' : Ram} → 
     → StaysWhole d mid new ram' ram'' → StaysWhole d first new ram ram''
 whole-then one two = record { inside = two.inside; count = two.count ∙ one.count; root = two.root ∙ one.root }
 
--- operations of a page behind those before
+-- operations of a page after earlier ones
 pub page-then : {a b d : Held} {stops : List ℕ} {first mid : Hart} (new : Hart) {pc : ℕ} {base : ℕ} (k to : ℕ)
     {ram ram' : Ram} (ram'' : Ram) {count left f : ℕ} {done : ℕ} (stopped : Option Trap)
     → GoesLeft a b stops first mid pc ram ram' count left f
@@ -368,7 +368,7 @@ page-then {a} {b} {d} {first} {mid} new {pc} {base} k to {ram} {ram'} ram'' {cou
     let sum : count - (left - done) ≡ (count - left) + done = omega (arith, before.bounded, within) in
     rw sum (goes-then _ _ _ before.behind (before.goes mapping at) step)
 
--- one that isn't done, after those before, is at no stop
+-- an operation that isn't done, after earlier ones, is at no stop
 pub stop-behind : {held held' : Held} {stops : List ℕ} {old new : Hart} {pc : ℕ} {ram ram' : Ram} {count left f : ℕ}
     (base k end done : ℕ) → GoesLeft held held' stops old new pc ram ram' count left f
     → pc_at base k ≡ pc → done < end - k → done ≤ left → IsClear stops base k end
@@ -387,7 +387,7 @@ stop-behind {stops} {old} {pc} {count} {left} base k end done before start fewer
       rw (there, ← count) before.behind
 ]
 
--- a program has come to a page, where a look-up was answered
+-- a program is at a page, whose look-up has this result
 module _ (a : Held) {b : Held} (d : Held) {stops : List ℕ} {first mid : Hart} {ram ram' : Ram} (done : ℕ)
     (mapping : List Mapped) (whole : StaysWhole b first mid ram ram')
     (before : GoesOn a b first.root.0 mapping stops (point_of first ram) (point_of mid ram') done None)
@@ -408,7 +408,7 @@ module _ (a : Held) {b : Held} (d : Held) {stops : List ℕ} {first mid : Hart} 
   run-faults none n start past g = let now =
       come past g in rw (← ap (λ (r : FrameNo). r.0) whole.root) (now.0, cycle-unfound _ _ _ _ (now.1 ∙ none))
 
-  -- a page behind those before
+  -- a page after earlier ones
   pub run-then : {e : Held} (new : Hart) (ram'' : Ram) (count left rest f : ℕ) (stopped : Option Trap)
       → IsBehind stops done first.pc mid.pc → o ≡ Some f → left ≤ count → rest ≤ left → done ≡ count - left
       → ((mapping : List Mapped) → frame_for mapping (mid.pc / 4096) Fetch ≡ Some f

@@ -1,4 +1,4 @@
--- What operations leave, and where a hart goes on behind them.
+-- What operations leave, and where a hart goes on after them.
 use Rattle.std.specs.Prelude.{ℕ, ◌≡◌, List, Option, Some, None, MatchResult, length}
 use Rattle.unixmodel.specs.declared.trap.Trap.{Trap}
 use Rattle.unixmodel.specs.Meaning.{Effect}
@@ -36,8 +36,8 @@ Leaves effect answers next pc old new ram ram' = MatchResult effect
     × (ram' ≡ stored ram answers d.change))
     (λ t. (trap_of next ≡ Some t) × (new ≡ old) × (ram' ≡ ram))
 
--- What is meant is done at a pc, with each access answered as the law of translators allows. The hart's own pc is
--- looked at by nothing. What is held behind it was held, or is what the walk gives.
+-- What is meant is done at a pc, with each access translated as the law of translators allows. The hart's own pc has no
+-- part in it. What is held afterwards was held, or is what the walk gives.
 pub record Acts (held held' : Held) (meaning : Sight → Effect) (next : Next) (pc : ℕ) (old new : Hart)
     (ram ram' : List (List ℕ)) : Type 0 where
   pub answers : Answers

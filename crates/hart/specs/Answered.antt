@@ -1,4 +1,4 @@
--- What an instruction does where a translator answers its accesses, whatever the tables are.
+-- What an instruction does where a translator serves its accesses, whatever the tables are.
 use Rattle.std.specs.Prelude.{ℕ, ◌≡◌, ◌%◌, ◌==◌, false, true, if◌then◌else◌, List, [], Option, Some, None, MatchResult}
 use Rattle.std.specs.Prelude.{option_map, slice_index, slice_index_or, slice_set}
 use Rattle.unixmodel.specs.declared.instr.Instr.{Instr}
@@ -18,7 +18,7 @@ use Rattle.unixmodel.specs.Words.{instruction_of}
 use Rattle.hart.specs.declared.state.Hart.{Hart}
 use Rattle.unixmodel.specs.declared.instr.Instr.TheVariants as instr
 
--- ---- the answers
+-- ---- the results of a translator
 
 -- for each access to an address the frame of its page, or None: a page fault
 abbrev pub Answers : Type 0
@@ -44,7 +44,7 @@ given ram f = record {
 abbrev pub seen : List (List ℕ) → Answers → Sight
 seen ram answers access address = option_map (given ram) (answers access address)
 
--- ---- the instruction: its meaning, with what its accesses find in the place of a memory
+-- ---- the instruction: its meaning, with what its accesses find instead of a memory
 
 abbrev pub load_by : List ℕ → ℕ → LoadOp → ℕ → ℕ → Sight → Effect
 load_by regs pc op rd address see =
@@ -93,7 +93,7 @@ HasEffect effect answers result old new ram ram' = MatchResult effect
     × (ram' ≡ stored ram answers d.change))
     (λ t. (result ≡ Some t) × (new ≡ old) × (ram' ≡ ram))
 
--- A hart does what an instruction means, with each access answered as the law of translators allows. What the law
+-- A hart does what an instruction means, with each access translated as the law of translators allows. What the law
 -- allows later in a step it allows at its start too, as a translator adds only what the walk gives.
 pub record IsStep (held : Held) (meaning : Sight → Effect) (result : Option Trap) (old new : Hart)
     (ram ram' : List (List ℕ)) : Type 0 where

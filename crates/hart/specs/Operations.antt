@@ -1,4 +1,4 @@
--- What operations do: each is an instruction with its fields taken out of its word.
+-- What operations do: each is an instruction with its fields taken from its word.
 use Rattle.std.specs.Prelude.{ℕ, ◌≡◌, ◌*◌, ◌/◌, List, Option, Some, None, Ok, slice_index, suc, zero}
 use Rattle.unixmodel.specs.declared.instr.BranchOp.{BranchOp}
 use Rattle.unixmodel.specs.declared.instr.ImmOp.{ImmOp}

@@ -27,13 +27,13 @@ pub record DoesOne (mapping : List Mapped) (old new : Point) : Type 0 where
   pub leaves : new ≡ record { registers = done.regs; pc = done.pc; ram = changed old.ram mapping done.change }
   pub writes : WritesOnly old.ram mapping new.ram
 
--- so many are, one after the other, and none after the first begins at a stop
+-- n instructions are done, one after the other, and none after the first begins at a stop
 unfoldable pub RunsTo : List ℕ → ℕ → List Mapped → Point → Point → Type 0
 RunsTo stops zero mapping old new = new ≡ old
 RunsTo stops (suc n) mapping old new = (mid : Point) × RunsTo stops n mapping old mid × DoesOne mapping mid new
     × IsPast stops n mid.pc
 
--- so many may have written this
+-- n instructions may have written this
 unfoldable pub Reaches : ℕ → List Mapped → List (List ℕ) → List (List ℕ) → Type 0
 Reaches zero mapping ram ram' = ram' ≡ ram
 Reaches (suc n) mapping ram ram' = (mid : List (List ℕ)) × Reaches n mapping ram mid × WritesOnly mid mapping ram'
@@ -43,7 +43,7 @@ pub record IsSteady (ram : List (List ℕ)) (root : ℕ) (mapping : List Mapped)
   pub sound : IsSound ram mapping
   pub walks : (n : ℕ) (ram' : List (List ℕ)) → Reaches n mapping ram ram' → WalksTo ram' root mapping
 
--- a program has come so far by a mapping, of which all is that a translator holds under the root
+-- n instructions of a program are done by a mapping, which holds all that a translator holds under the root
 pub record Goes (held : Held) (root : ℕ) (mapping : List Mapped) (stops : List ℕ) (n : ℕ) (first now : Point) : Type 0
   where
     pub steady : IsSteady first.ram root mapping
@@ -59,7 +59,7 @@ point_of hart ram = record { registers = hart.registers; pc = hart.pc; ram = ram
 abbrev pub point_at : Hart → ℕ → List (List ℕ) → Point
 point_at hart pc ram = record { registers = hart.registers; pc = pc; ram = ram }
 
--- so many more are done, by each mapping that was gone by, and a trap is what the next one comes to
+-- `done` more instructions are done, by each mapping that was valid so far, and a trap is that of the next one
 abbrev pub GoesOn : Held → Held → ℕ → List Mapped → List ℕ → Point → Point → ℕ → Option Trap → Type 0
 GoesOn held held' root mapping stops old new done trap = (n : ℕ) (first : Point) → IsPast stops n old.pc
     → Goes held root mapping stops n first old
@@ -76,13 +76,13 @@ pub record StaysWhole (held : Held) (old new : Hart) (ram ram' : List (List ℕ)
 abbrev pub word_in : List (List ℕ) → ℕ → ℕ → ℕ
 word_in ram f pc = number (bytes_at 4 pc (given ram f))
 
--- where a program goes on from a place behind what was done
+-- where a program goes on, from a pc after what was done
 abbrev pub goes_to : ℕ → Next → ℕ
 goes_to pc Behind = pc
 goes_to pc (At target) = target
 goes_to pc (Stop t) = pc
 
--- of so many words all are done, or some up to a jump, or not all for a trap
+-- of `words` words all are done, or some up to a jump, or not all because of a trap
 abbrev pub MovesOn : ℕ → ℕ → Next → Type 0
 MovesOn words done Behind = done ≡ words
 MovesOn words done (At target) = 0 < done

@@ -3,25 +3,25 @@ use Rattle.std.specs.Prelude.{Bool, List, false, true, ℕ, ◌*◌, ◌<◌, �
 use Rattle.std.specs.List.{list_any}
 use Rattle.unixmodel.specs.Numbers.{plus}
 
--- the address of a place of the page at an address
+-- the address of word k of the page at `base`
 abbrev pub pc_at : ℕ → ℕ → ℕ
 pc_at base k = plus base (4 * k)
 
 abbrev pub is_stop : List ℕ → ℕ → Bool
 is_stop stops address = list_any (λ s. s == address) stops
 
--- after so many instructions one does not begin at a stop
+-- after n instructions, if any, one does not begin at a stop
 abbrev pub IsPast : List ℕ → ℕ → ℕ → Type 0
 IsPast stops n pc = 0 < n → is_stop stops pc ≡ false
 
--- a run has come from a pc to another by so many instructions, and after them it is at no stop
+-- a run goes from a pc to another by `done` instructions, and if there are any it is at no stop after them
 abbrev pub IsBehind : List ℕ → ℕ → ℕ → ℕ → Type 0
 IsBehind stops done old new = ((0 < done) × (is_stop stops new ≡ false)) ⊎ ((done ≡ 0) × (new ≡ old))
 
--- no place of a page between two is at a stop
+-- no word of a page between two is at a stop
 abbrev pub IsClear : List ℕ → ℕ → ℕ → ℕ → Type 0
 IsClear stops base from to = (j : ℕ) → from < j → j < to → is_stop stops (pc_at base j) ≡ false
 
--- as many are done as were asked for, or the next one is at a stop
+-- as many are done as were requested, or the next one is at a stop
 abbrev pub EndsAt : List ℕ → ℕ → ℕ → ℕ → Type 0
 EndsAt stops count done pc = (done ≡ count) ⊎ ((0 < done) × (is_stop stops pc ≡ true))

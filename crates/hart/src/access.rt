@@ -1,4 +1,4 @@
-//! Loads and stores: how many bytes, where they are, and what they are worth.
+//! Loads and stores: how many bytes, where they are, and their values.
 ghost use Rattle.std.specs.Prelude.{◌≡◌, ◌%◌, ◌/◌, ◌<◌, ◌+◌, ◌*◌, ◌-◌, ◌^◌, ◌==◌, ◌≤◌, ◌⊎◌, IfSome, length, List, []};
 ghost use Rattle.std.specs.Prelude.{slice_range, slice_index_or, slice_set, IsTrue, OnSome, Option, Some, None};
 ghost use Rattle.std.specs.Result.{result_ok};
@@ -58,7 +58,7 @@ pub fn is_aligned(address: u64, size: u64) -> bool
     }
 }
 
-/// The place of an address in its page.
+/// The offset of an address in its page.
 #[inline]
 pub fn place(address: u64) -> usize
     ensures { result ≡ address % 4096 }
@@ -66,7 +66,7 @@ pub fn place(address: u64) -> usize
     (address % 4096) as usize
 }
 
-/// The frame of the page that an address is on, or None where the access isn't allowed.
+/// The frame of the page that an address is on, or `None` where the access isn't allowed.
 #[inline(always)]
 pub fn locate<T: Translate>(
     trans: &mut T,

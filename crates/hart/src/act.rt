@@ -1,4 +1,4 @@
-//! Operations are done: each does what its instruction means.
+//! Operations are executed: each does what its instruction means.
 //!
 //! The pc is an argument, and where to go on is the result, so that a loop over operations has the pc in a register.
 ghost use Rattle.std.specs.Prelude.{◌≡◌, ◌%◌, ◌/◌, ◌<◌, ◌+◌, ◌*◌, ◌^◌, ◌==◌, ◌≤◌, ℕ, if◌then◌else◌, Some, None};
@@ -156,7 +156,7 @@ impl Hart {
         self.go(pc.wrapping_add(bits::extend_u32(imm)))
     }
 
-    // Reads memory into rd. A misaligned address comes before a page fault.
+    // Reads memory into rd. A misaligned address is reported before a page fault.
     #[inline(always)]
     fn take<T: Translate>(
         &mut self,
@@ -179,7 +179,7 @@ impl Hart {
         }
     }
 
-    // Looks whether memory may be read.
+    // Checks that memory may be read.
     #[inline(always)]
     fn probe<T: Translate>(&self, op: LoadOp, address: u64, ram: &Ram, trans: &mut T) -> Next
         requires { HoldsInside (T.held trans.old) ram.now }
@@ -195,7 +195,7 @@ impl Hart {
         }
     }
 
-    // Writes a value's low bytes to memory. A misaligned address comes before a page fault.
+    // Writes a value's low bytes to memory. A misaligned address is reported before a page fault.
     #[inline(always)]
     fn give<T: Translate>(
         &self,
@@ -221,7 +221,7 @@ impl Hart {
         }
     }
 
-    /// Does an operation where the pc is.
+    /// Does an operation at a pc.
     #[inline(always)]
     #[tactic(auto, using(crate::proofs::Acts::op_acts), unfolding(crate::specs::Operations::op_by))]
     pub fn act<T: Translate>(&mut self, op: &Op, pc: u64, ram: &mut Ram, trans: &mut T) -> Next

@@ -48,8 +48,8 @@ impl Line {
 // What the words of 64 frames decode to.
 const LINES: usize = 65536;
 
-/// Decoded words of as many frames as fit: each frame has the place of its number modulo 64, where a word is decoded
-/// anew if another one stands there. In contracts it is nothing, as what it holds shows in nothing.
+/// Decoded words of as many frames as fit: each frame has the lines of its number modulo 64, where a word is decoded
+/// anew if there is another one. In contracts it is nothing, as what it holds is not visible.
 #[derive(Drop)]
 pub struct Decoded {
     lines: Vec<Line>,

@@ -1,4 +1,4 @@
-//! Operations: instructions as the loop over them wants them, of 8 bytes, one variant a mnemonic.
+//! Operations: instructions in the form that the loop over them takes, of 8 bytes, one variant a mnemonic.
 ghost use Rattle.std.specs.Prelude.{◌≡◌, ◌<◌};
 ghost use Rattle.hart.specs.Operations.{target_of};
 
@@ -46,7 +46,7 @@ impl Target {
     }
 }
 
-/// What an instruction does, with its fields taken out of its word. An immediate has 32 bits and is sign-extended.
+/// What an instruction does, with its fields taken from its word. An immediate has 32 bits and is sign-extended.
 /// What would only compute for x0 is `Nop`; a load for x0 is `Probe`, and a jump that leaves no address `J` or `Jr`.
 #[derive(Clone, Copy)]
 pub enum Op {

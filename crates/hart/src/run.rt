@@ -1,7 +1,7 @@
 //! Many instructions, one after the other.
 //!
-//! The loop over the operations of a page has the registers, the memory, the translator and the decoded words behind
-//! references of their own, and the place in the page as a local: a hart's pc is written where a page is left.
+//! The loop over the operations of a page has the registers, the memory, the translator and the decoded words in
+//! references of their own, and the index in the page as a local: a hart's pc is written where a page is left.
 ghost use Rattle.std.specs.Prelude.{◌≡◌, ◌%◌, ◌/◌, ◌<◌, ◌≤◌, ◌+◌, ◌-◌, ◌*◌, ℕ, Err, IfNone, IfSome, List, None, Some};
 ghost use Rattle.std.specs.Prelude.{length};
 ghost use Rattle.unixmodel.specs.Translation.{HoldsInside};
@@ -21,7 +21,7 @@ use ram::{FrameNo, Ram};
 use sv39::Translate;
 use unixmodel::trap::{Access, Cause, Trap};
 
-// How many words there are from a place up to another, at most so many.
+// How many words there are from one index to another, at most `left`.
 #[inline(always)]
 fn room(k: usize, end: usize, left: u32) -> usize
     requires { k < end }
@@ -34,7 +34,7 @@ fn room(k: usize, end: usize, left: u32) -> usize
 }
 
 impl Hart {
-    // Does the operation of the word at place `k` of the page at address `base`, which has frame `f`.
+    // Does the operation of word `k` of the page at address `base`, which has frame `f`.
     #[inline(always)]
     fn obey<T: Translate>(
         &mut self,
@@ -57,8 +57,8 @@ impl Hart {
         self.act(line.op(), base.wrapping_add(4 * k as u64), ram, trans)
     }
 
-    // Does operations of that page, from a place up to an end or to the first that goes elsewhere: how many were done,
-    // and where it goes.
+    // Does operations of that page, from one index to another or to the first that jumps. Returns how many were done,
+    // and where it goes on.
     #[inline(always)]
     fn straight<T: Translate>(
         &mut self,
@@ -96,8 +96,8 @@ impl Hart {
         ((end - from) as u32, Next::Behind)
     }
 
-    // Does at most so many operations of the page of the pc, which has frame `f`, until a jump leaves the page, up to a
-    // stop: how many are left, and a trap.
+    // Does at most `count` operations of the page of the pc, which has frame `f`, until a jump leaves the page, up to a
+    // stop. Returns how many are left, and a trap.
     #[inline(never)]
     fn run_page<T: Translate, S: Stops>(
         &mut self,
@@ -152,8 +152,8 @@ impl Hart {
         (left, None)
     }
 
-    /// Does at most so many instructions, up to the first that isn't done, and no further than to a stop after the
-    /// first of them: how many were done, and the trap of the one that isn't.
+    /// Does at most `count` instructions, up to the first that isn't done or to a stop after the first of them. Returns
+    /// how many were done, and the trap of the one that isn't.
     #[inline(always)]
     pub fn run<T: Translate, S: Stops>(
         &mut self,

@@ -1,7 +1,7 @@
 //! One step of a hart: fetch, decode, execute.
 //!
 //! From the RISC-V unprivileged manual, its chapters on RV32I, RV64I and the extension M. An instruction that raises a
-//! trap changes nothing; the address that is told with it is the target of a jump, the accessed address of a load or
+//! trap changes nothing; the address that comes with it is the target of a jump, the accessed address of a load or
 //! store, and else the pc.
 ghost use Rattle.std.specs.Prelude.{◌≡◌, Some, None, List, length, IfSome, IfNone};
 ghost use Rattle.unixmodel.specs.Cycle.{cycle};
@@ -19,7 +19,7 @@ use sv39::Translate;
 use unixmodel::trap::{Access, Cause, Trap};
 
 impl Hart {
-    /// The word at the pc, or None where it may not be fetched.
+    /// The word at the pc, or `None` where it may not be fetched.
     #[inline]
     #[tactic(auto, using(crate::proofs::Bytes::number_of_word))]
     fn fetch<T: Translate>(&self, ram: &Ram, trans: &mut T) -> Option<u32>
@@ -33,7 +33,7 @@ impl Hart {
         Some(ram.load_u32(f, place(self.pc)))
     }
 
-    /// Fetches, decodes and executes.
+    /// Fetches, decodes and executes one instruction.
     #[inline(always)]
     fn cycle<T: Translate>(&mut self, ram: &mut Ram, trans: &mut T) -> Option<Trap>
         requires { HoldsInside (T.held trans.old) ram.old }
@@ -64,9 +64,9 @@ impl Hart {
 
     /// Does one instruction, or says why it isn't done.
     ///
-    /// `answered` holds whatever the tables are, and for every translator; `trap` is a part of it. `step` is what
-    /// follows where all answers that the translator may give are those of a mapping: then the registers, the pc and
-    /// the frames are the instruction's on the memory which that mapping shows.
+    /// The clause on `IsStep` holds whatever the tables are, and for every translator; `trap` is a part of it. `step`
+    /// is what follows where all results that the translator may return are those of a mapping: then the registers, the
+    /// pc and the frames are the instruction's on the memory which that mapping shows.
     #[inline(always)]
     pub fn step<T: Translate>(&mut self, ram: &mut Ram, trans: &mut T) -> Option<Trap>
         requires { HoldsInside (T.held trans.old) ram.old }

@@ -10,7 +10,8 @@ pub trait Stops {
     fn has(&self, address: u64) -> bool
         ensures { result ≡ is_stop (addresses self.now) address };
 
-    /// Up to where the places of a page after one are none of them; the page is that of an address.
+    /// An index after `k`, up to which no word of the page at `base` after word `k` is at one of them. A page has 1024
+    /// words.
     fn clear_to(&self, base: u64, k: usize) -> usize
         requires place { k < 1024 }
         requires page { base % 4096 ≡ 0 }
@@ -45,7 +46,7 @@ pub struct Breakpoints<'a> {
     pub addresses: &'a [u64],
 }
 
-// Up to where the places of a page after one are not that of an address, and no further than to an end.
+// The index of the word at `address`, if it lies after word `k` and before `end` of the page at `base`; else `end`.
 #[inline]
 fn clear_of(address: u64, base: u64, k: usize, end: usize) -> usize
     requires page { base % 4096 ≡ 0 }
