@@ -1,4 +1,4 @@
--- The names that the lemmas of this crate import from elsewhere, passed on from one place. Declares nothing.
+-- The names from elsewhere that the lemmas of this crate import, in one file. Declares nothing.
 pub use Rattle.std.proofs.Common.{◌<◌, [], ap, ap₂, arith, get_or-set_other, get_or-set_same, IfSome, inl, inr, length}
 pub use Rattle.std.proofs.Common.{length-set, List}
 pub use Rattle.std.proofs.lemmas.Option.{none-some}

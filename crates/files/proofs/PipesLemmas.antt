@@ -21,7 +21,7 @@ use Rattle.files.specs.Sound.{IsSound}
 abbrev pub Pipes : Type 0
 Pipes = List (Option (List ℕ))
 
--- the places that a table shows
+-- the slots that a table shows
 abbrev pub Slots : Type 0
 Slots = List (Option Slot)
 
@@ -29,7 +29,7 @@ Slots = List (Option Slot)
 abbrev pub Opens : Type 0
 Opens = List (Option OpenFile)
 
--- ---- open files that come and go
+-- ---- open files that are opened and closed
 
 or-swap : (a b c : Bool) → (a || (b || c)) ≡ (b || (a || c))
 or-swap true true c = refl
@@ -37,7 +37,7 @@ or-swap true false c = refl
 or-swap false b c = refl
 
 module _ {X : Type 0} (test : X → Bool) where
-  -- x takes a free place
+  -- x takes a free slot
   pub any-put : (xs : List (Option X)) (i : ℕ) (x : X) → i < length xs → slot xs i ≡ None
       → list_any test (taken (put xs i x)) ≡ (test x || list_any test (taken xs))
   any-put [] i x h free = absurd (omega (arith, h))
@@ -45,7 +45,7 @@ module _ {X : Type 0} (test : X → Bool) where
   any-put (None ∷ xs) (suc i) x h free = any-put xs i x (omega (arith, h)) free
   any-put (Some y ∷ xs) (suc i) x h free = rw (any-put xs i x (omega (arith, h)) free) (or-swap (test y) (test x) _)
 
-  -- x loses its place
+  -- x loses its slot
   pub any-clear : (xs : List (Option X)) (i : ℕ) {x : X} → slot xs i ≡ Some x
       → list_any test (taken xs) ≡ (test x || list_any test (taken (clear xs i)))
   any-clear [] i {x} at = absurd (none-some x at)
@@ -96,7 +96,7 @@ piped-last pipes opens k q f e is at on gone r = elim (cases_eq r q) [
 
 -- ---- what reaping leaves
 
--- pipes that stand are as they were
+-- pipes that are left are as they were
 pub record IsLeftOf (old new : Pipes) : Type 0 where
   pub all : length new ≡ length old
   pub each : (q : ℕ) (bytes : List ℕ) → slot new q ≡ Some bytes → slot old q ≡ Some bytes
@@ -124,7 +124,7 @@ kept-pipe : (opens : Opens) (q : ℕ) (old new : Option (List ℕ)) → is_some 
 kept-pipe opens q old None is same = pipe-none opens q old (sym is)
 kept-pipe opens q old (Some bytes) is same = rw (same bytes refl, ← is) refl
 
--- of the pipes of these open files those are kept that stand
+-- of the pipes of these open files those are kept that exist
 pub pipes-left : (opens : Opens) (old new : Pipes) → IsPiped new opens → IsLeftOf old new
     → kept (piped opens) 0 old ≡ new
 pipes-left opens old new is left =
@@ -141,7 +141,7 @@ without_pipes-left s old new is left = ap (λ pipes. record s { pipes = pipes })
 pub without_pipes-same : (s : State) → IsPiped s.pipes s.opens → without_pipes s ≡ s
 without_pipes-same s is = without_pipes-left s _ _ is (pipes-same _)
 
--- ---- how many places are free, and that two are taken one after the other
+-- ---- how many slots are free, and that two are taken one after the other
 
 abbrev one_free : {X : Type 0} → Option X → ℕ
 one_free o = cond (is_none o) 1 0
@@ -163,11 +163,11 @@ some-free [] h = absurd (omega (arith, h))
 some-free (None ∷ xs) h = omega arith
 some-free (Some x ∷ xs) h = omega (arith, some-free xs (omega (arith, h, free-cons (Some x) xs)))
 
--- no place is free
+-- no slot is free
 pub free-None : {X : Type 0} (xs : List (Option X)) → count_by is_none xs ≡ 0 → free_slot xs ≡ None
 free-None xs h = rw (le-ltb (taken_first xs) (length xs) (omega (arith, none-free xs h))) refl
 
--- the lowest free place
+-- the lowest free slot
 pub free-Some : {X : Type 0} (xs : List (Option X)) → 0 < count_by is_none xs → free_slot xs ≡ Some (taken_first xs)
 free-Some xs h = rw (lt-ltb (taken_first xs) (length xs) (some-free xs h)) refl
 
@@ -175,12 +175,12 @@ is-None : {X : Type 0} (o : Option X) → is_none o ≡ true → o ≡ None
 is-None None h = refl
 is-None (Some x) h = cc
 
--- what a free place is
+-- a free slot that was found is free
 pub free-place : {X : Type 0} (xs : List (Option X)) (i : ℕ) → free_slot xs ≡ Some i
     → (i < length xs) × (slot xs i ≡ None)
 free-place xs i h = let at = position-Some _ xs i _ h in (at.0, is-None (slot xs i) at.1)
 
--- a place that is taken is one fewer
+-- a slot that is taken is one fewer
 pub free-put : {X : Type 0} (xs : List (Option X)) (i : ℕ) (x : X) → i < length xs → slot xs i ≡ None
     → count_by is_none (put xs i x) + 1 ≡ count_by is_none xs
 free-put xs i x h free =
@@ -188,13 +188,13 @@ free-put xs i x h free =
     let one : one_free (slot xs i) ≡ 1 = rw free refl in
     omega (arith, sums, one)
 
--- the open files have as many free places as the table
+-- the open files have as many free slots as the table
 pub free-opens : (t : Table) → count_by is_none (opens_of t) ≡ free_count t
 free-opens [] = refl
 free-opens (None ∷ t) = rw (free-cons None (opens_of t), free-cons None t, free-opens t) refl
 free-opens (Some c ∷ t) = rw (free-cons (Some (file_of c.file)) (opens_of t), free-cons (Some c) t, free-opens t) refl
 
--- ---- what a table shows of its places
+-- ---- what a table shows of its slots
 
 abbrev pub shown : Slots → Table
 shown xs = map (option_map counted_of) xs
@@ -213,14 +213,14 @@ slot-free (suc n) (suc i) = slot-free n i
 pub named-free : (n : ℕ) → AreNamed (replicate n None)
 named-free n i s at = absurd (none-some s (sym (slot-free n i) ∙ at))
 
--- ---- one place
+-- ---- one slot
 
 pub within-named : (xs : Slots) {i : ℕ} (o : Option Slot) → length xs ≡ 100 → AreNamed xs → i < length xs
     → o ≡ slot xs i → IfSome o (λ s. (i < 100) × (0 < s.references))
 within-named xs None all named hi at = tt
 within-named xs {i} (Some s) all named hi at = (omega (arith, all, hi), named i s (sym at))
 
--- a write of one place through the slice of all
+-- a write of one slot through the slice of all
 pub refilled : {xs ys : Slots} (i : ℕ) (o : Option Slot) → ys ≡ xs
     → refill (length xs) xs (slice_set ys i o) ≡ slice_set xs i o
 refilled {xs} {ys} i o same = items-with_items _ _ (length-set ys i o ∙ ap length same) ∙ ap (λ l. slice_set l i o) same
@@ -229,7 +229,7 @@ pub shown-refilled : {xs ys : Slots} (i : ℕ) (o : Option Slot) → ys ≡ xs
     → shown (refill (length xs) xs (slice_set ys i o)) ≡ slice_set (shown xs) i (option_map counted_of o)
 shown-refilled {xs} {ys} i o same = ap shown (refilled i o same) ∙ map-set (option_map counted_of) xs i o
 
--- ---- what an open file is open on, written in its place
+-- ---- what an open file is open on, written in its slot
 
 named-moved : (offset : ℕ) (q u : Option Slot)
     → option_map counted_of u ≡ option_map (moved_in offset) (option_map counted_of q)
@@ -239,7 +239,7 @@ named-moved offset (Some v) u told each s at =
     let count : s.references ≡ v.references = ap count_in (sym (ap (option_map counted_of) at) ∙ told) in
     omega (arith, each v refl)
 
--- a place that was lent, with what was left there: an open file at its new offset, where there is one
+-- a slot that was lent, with what was left there: an open file at its new offset, where there is one
 module _ {t : Inside} (is : IsSound t) {ys : Slots} (same : ys ≡ t.slots.items) (i offset : ℕ) (o : Option Slot)
     (here : option_map counted_of o ≡ option_map (moved_in offset) (option_map counted_of (slot ys i))) where
   pub moved-shown : shown (refill (length t.slots.items) t.slots.items (slice_set ys i o))

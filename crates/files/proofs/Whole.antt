@@ -1,4 +1,4 @@
--- What the table comes to in the abstract Unix's state: its open files are the state's, and what is left of the table
+-- The table in the abstract Unix's state: its open files are the state's, and what is left of the table
 -- where descriptors go is what a state is left with where nothing names the others any more.
 use Rattle.files.proofs.Common.{none-some, Bool, List, None, Option, Some, [], cond, is_none, map, not, option_map}
 use Rattle.files.proofs.Common.{slice_set, suc, zero, ℕ, ◌+◌, ◌≡◌, ◌||◌, ◌∷◌, list_any, prefix_len, ap, refl}
@@ -19,13 +19,13 @@ use Rattle.files.specs.declared.file.Target.TheVariants as target
 use Rattle.unixmodel.specs.OpenFiles as unix
 pub use Rattle.std.proofs.lemmas.List.{set_past as set_outside}
 
--- the places of a table
+-- the slots of a table
 abbrev pub Table : Type 0
 Table = List (Option Counted)
 
--- ---- places whose contents a function tells
+-- ---- slots, and a function of what they hold
 
--- what holds of each place, where one has another
+-- what holds of each slot, where one has another
 pub all-set : {X : Type 0} (P : ℕ → Option X → Type 0) (xs : List (Option X)) (i : ℕ) (o : Option X) → P i o
     → ((j : ℕ) → P j (slot xs j)) → (j : ℕ) → P j (slot (slice_set xs i o) j)
 all-set P [] i o here is j = is j
@@ -35,7 +35,7 @@ all-set P (x ∷ xs) (suc i) o here is zero = is 0
 all-set P (x ∷ xs) (suc i) o here is (suc j) = all-set (λ n. P (suc n)) xs i o here (λ n. is (suc n)) j
 
 module _ {X Y : Type 0} (f : X → Y) where
-  -- the same place is free
+  -- the same slot is free
   is_none-told : (x : Option X) → is_none (option_map f x) ≡ is_none x
   is_none-told None = refl
   is_none-told (Some x) = refl
@@ -48,7 +48,7 @@ module _ {X Y : Type 0} (f : X → Y) where
   pub free_slot-told : (xs : List (Option X)) → free_slot (map (option_map f) xs) ≡ free_slot xs
   free_slot-told xs = rw (prefix_len-told xs, length-map xs (option_map f)) refl
 
-  -- some place's content passes
+  -- what some slot holds passes
   pub any-told : (test : Y → Bool) (xs : List (Option X))
       → list_any test (taken (map (option_map f) xs)) ≡ list_any (holds (λ x. test (f x))) xs
   any-told test [] = refl
@@ -108,7 +108,7 @@ one_at-self k = grind (arith, nat_tests)
 one_at-other : {k n : ℕ} → k ≢ n → one_at k n ≡ 0
 one_at-other h = grind (arith, nat_tests)
 
--- at place i, and at each other, where i has another
+-- at slot i, and at each other, where i has another
 count-set : (t : Table) {i : ℕ} (o : Option Counted) (P : ℕ → ℕ → Type 0) → i < length t → P i (count_in o)
     → ((k : ℕ) → k ≢ i → P k (count_at t k)) → (k : ℕ) → P k (count_at (slice_set t i o) k)
 count-set t {i} o P h here others k = elim (cases_eq k i) [
@@ -116,7 +116,7 @@ count-set t {i} o P h here others k = elim (cases_eq k i) [
   | inr other ↦ rw (get_or-set_other t i k o None other) (others k other)
 ]
 
--- an open file takes a free place
+-- an open file takes a free slot
 pub count-opened : (t : Table) (i : ℕ) (f : OpenFile) → i < length t → slot t i ≡ None → (k : ℕ)
     → count_at (opened t i f) k ≡ count_at t k + one_at k i
 count-opened t i f h free =
@@ -219,7 +219,7 @@ file-opens t i = slot-opens t i ∙ file_in-file _
 pub free_slot-opens : (t : Table) → free_slot (opens_of t) ≡ free_slot t
 free_slot-opens t = free_slot-told file_in t
 
--- an open file takes a place
+-- an open file takes a slot
 pub opens-opened : (t : Table) (i : ℕ) (f : OpenFile) → opens_of (opened t i f) ≡ put (opens_of t) i (file_of f)
 opens-opened t i f = map-set (option_map file_in) t i (Some (record { file = f; count = 1 }))
 
@@ -236,7 +236,7 @@ file_in-fewer : (o : Option Counted) → 1 < count_in o
 file_in-fewer None h = absurd (omega (arith, h))
 file_in-fewer (Some c) h = rw (lt-ltb 1 c.count h) refl
 
--- other descriptors name it still
+-- other descriptors still name it
 pub opens-closed : (t : Table) (i : ℕ) → 1 < count_at t i → opens_of (closed t i) ≡ opens_of t
 opens-closed t i h = map-set_same (option_map file_in) t i (option_and_then fewer (slot t i)) None (file_in-fewer _ h)
 
@@ -337,7 +337,7 @@ left-closed old new i left = record {
 
 -- ---- reaping
 
--- what is kept of a place
+-- what is kept of a slot
 abbrev pub kept_in : {X : Type 0} → (ℕ → X → Bool) → ℕ → Option X → Option X
 kept_in test k None = None
 kept_in test k (Some x) = cond (test k x) (Some x) None
@@ -362,7 +362,7 @@ kept-none test k (Some f) fails = rw (fails f) refl
 abbrev described : State → ℕ → unix.OpenFile → Bool
 described s k f = is_described s k
 
--- of a place whose count is that of its descriptors the state keeps what the table kept
+-- of a slot whose count is that of its descriptors the state keeps what the table kept
 kept-place : (s : State) (k : ℕ) {old : Option unix.OpenFile} (new : Option Counted)
     → count_in new ≡ count_of s.places k
     → ((c : Counted) → new ≡ Some c → (old ≡ Some (file_of c.file)) × (0 < c.count))

@@ -1,4 +1,4 @@
--- What the types of the table stand for in the abstract Unix's state.
+-- What the types of the table represent in the abstract Unix's state.
 use Rattle.std.specs.Prelude.{Bool, ℕ}
 use Rattle.files.specs.declared.file.End.{End}
 use Rattle.files.specs.declared.file.End.TheVariants as end

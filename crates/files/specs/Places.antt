@@ -47,7 +47,7 @@ pub record IsTable (t : List (Option Counted)) : Type 0 where
 
 -- ---- changes
 
--- an open file that one descriptor names takes place i
+-- an open file that one descriptor names takes slot i
 abbrev pub opened : List (Option Counted) → ℕ → OpenFile → List (Option Counted)
 opened t i file = put t i (record { file = file; count = 1 })
 
@@ -85,9 +85,9 @@ moved_in offset c = record c { file = record c.file { target = moved_to offset c
 abbrev pub moved : List (Option Counted) → ℕ → ℕ → List (Option Counted)
 moved t i offset = slice_set t i (option_map (moved_in offset) (slot t i))
 
--- ---- answers
+-- ---- results
 
--- the lowest free place
+-- the lowest free slot
 abbrev pub place_from : Option ℕ → Result ℕ FileFault
 place_from None = Err Slots
 place_from (Some i) = Ok i
@@ -95,7 +95,7 @@ place_from (Some i) = Ok i
 abbrev pub place_for : List (Option unix.OpenFile) → Result ℕ FileFault
 place_for opens = place_from (free_slot opens)
 
--- how many places are free
+-- how many slots are free
 abbrev pub free_count : List (Option Counted) → ℕ
 free_count t = count_by is_none t
 

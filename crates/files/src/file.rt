@@ -45,7 +45,7 @@ impl Target {
         }
     }
 
-    // What is a file or a directory goes on from another offset.
+    // Sets the offset of a file or a directory.
     pub(crate) fn move_to(&mut self, offset: u32)
         ensures { self.new ≡ moved_to offset self.old }
     {

@@ -13,7 +13,7 @@ use arrayvec::ArrayVec;
 use std::marker::Model;
 use thiserror::Error;
 
-/// How many places there are.
+/// How many slots there are.
 pub const PLACES: usize = 100;
 
 /// Why a call on an open file is refused.
@@ -38,7 +38,7 @@ struct Slot {
     references: u32,
 }
 
-/// The places.
+/// The slots.
 #[derive(Drop)]
 pub struct Files {
     slots: ArrayVec<Option<Slot>, 100>,
@@ -59,7 +59,7 @@ impl Model for Files {
     ghost invariant = { IsSound };
 }
 
-// The lowest free place.
+// The lowest free slot.
 fn free_place(slots: &[Option<Slot>]) -> Option<usize>
     ensures place { result ≡ free_slot slots.now }
     ensures within { IfSome result (λ i. i < length slots.now) }
@@ -67,7 +67,7 @@ fn free_place(slots: &[Option<Slot>]) -> Option<usize>
     slots.iter().position(|slot| slot.is_none())
 }
 
-// How many places are free.
+// How many slots are free.
 fn free_count(slots: &[Option<Slot>]) -> usize
     ensures { result ≡ count_by is_none slots.now }
 {
@@ -105,7 +105,7 @@ fn usable(target: Target) -> Result<Target, FileFault>
 }
 
 impl Files {
-    /// Free places.
+    /// Free slots.
     pub fn new() -> Files
         ensures { result ≡ free_slots 100 }
     {
@@ -114,7 +114,7 @@ impl Files {
         }
     }
 
-    /// The same open files in the same places, with their counts.
+    /// The same open files in the same slots, with their counts.
     pub fn duplicate(&self) -> Files
         ensures { result ≡ self.now }
     {
@@ -134,7 +134,7 @@ impl Files {
         }
     }
 
-    // Puts an open file in a place, or frees it.
+    // Puts an open file in a slot, or frees it.
     fn set(&mut self, id: usize, slot: Option<Slot>)
         requires inside { id < 100 }
         requires named { IfSome slot (λ s. 0 < s.references) }
@@ -143,7 +143,7 @@ impl Files {
         self.slots[id] = slot;
     }
 
-    /// How many places are free.
+    /// How many slots are free.
     pub fn free_places(&self) -> usize
         ensures free { result ≡ free_count self.now }
         ensures sound { IsTable self.now }
@@ -151,7 +151,7 @@ impl Files {
         free_count(self.slots.as_slice())
     }
 
-    /// Puts an open file that one descriptor names in the lowest free place.
+    /// Puts an open file that one descriptor names in the lowest free slot.
     pub fn open(&mut self, file: OpenFile) -> Result<usize, FileFault>
         ensures place { result ≡ place_for (opens_of self.old) }
         ensures ok { IfOk result (λ i. self.new ≡ opened self.old i file) }
@@ -173,7 +173,7 @@ impl Files {
         }
     }
 
-    /// One more descriptor names an open file. Nothing changes where the place is free.
+    /// One more descriptor names an open file. Nothing changes where the slot is free.
     pub fn dup(&mut self, id: usize)
         requires { count_at self.old id < 4294967295 }
         ensures { self.new ≡ shared self.old id }
@@ -189,8 +189,8 @@ impl Files {
         }
     }
 
-    /// One descriptor fewer names an open file. With the last one its place becomes free, and what it was open on is
-    /// told. Nothing changes where the place is free.
+    /// One descriptor fewer names an open file. With the last one its slot becomes free, and what it was open on is
+    /// returned. Nothing changes where the slot is free.
     pub fn close(&mut self, id: usize) -> Option<Target>
         ensures table { self.new ≡ closed self.old id }
         ensures last { result ≡ last_target self.old id }
@@ -218,7 +218,7 @@ impl Files {
         self.slot(id).map(|slot| slot.file)
     }
 
-    /// How many descriptors name an open file: none where the place is free.
+    /// How many descriptors name an open file: none where the slot is free.
     pub fn references(&self, id: usize) -> u32
         ensures { result ≡ count_at self.now id }
     {
@@ -257,7 +257,7 @@ impl Files {
             .ok_or(FileFault::NoFile)
     }
 
-    /// What is open on a file or a directory goes on from this offset, in bytes. Nothing else changes.
+    /// Sets the offset, in bytes, of an open file on a file or a directory. Nothing else changes.
     pub fn set_offset(&mut self, id: usize, offset: u32)
         ensures { self.new ≡ moved self.old id offset }
     {
