@@ -1,4 +1,4 @@
--- The names that the lemmas of this crate import from elsewhere, passed on from one place. Declares nothing.
+-- The names from elsewhere that the lemmas of this crate import, in one file. Declares nothing.
 pub use Rattle.std.proofs.Common.{◌%◌, ◌&&◌, ◌*◌, ◌+◌, ◌++◌, ◌-◌, ◌/◌, ◌<◌, ◌==◌, [], All, ap, ap₂, arith, Bool, cond}
 pub use Rattle.std.proofs.Common.{drop, false, filter, flat_map, get_or, inl, inr, is_some, IsSome, IsTrue, length}
 pub use Rattle.std.proofs.Common.{List, map, nat_eq, nat_le, nat_lt, None, not, Option, option_and_then, option_map}

@@ -1,4 +1,4 @@
-//! Places of directories, 16 bytes each: the number of an inode and its name. A free one is all 0.
+//! Slots of directories, 16 bytes each: the number of an inode and its name. A free one is all 0.
 
 ghost use Rattle.std.specs.Prelude.{◌≡◌, ◌+◌, ◌*◌, ◌≤◌, ◌==◌, drop, length};
 ghost use Rattle.std.specs.List.{list_all};
@@ -8,10 +8,10 @@ ghost use Rattle.imagerules.specs.Places.{without_zeros};
 
 use byteorder::{ByteOrder, LittleEndian};
 
-/// How many bytes a place has.
+/// How many bytes a slot has.
 pub const PLACE_SIZE: usize = 16;
 
-/// The bytes of place `k`.
+/// The bytes of slot `k`.
 pub fn place_at(places: &[u8], k: usize) -> &[u8]
     requires { 16 * k + 16 ≤ length places.now }
     ensures place { result.now ≡ part (16 * k) 16 places.now }
@@ -20,14 +20,14 @@ pub fn place_at(places: &[u8], k: usize) -> &[u8]
     &places[PLACE_SIZE * k..PLACE_SIZE * k + PLACE_SIZE]
 }
 
-/// Whether a place is free.
+/// Whether a slot is free.
 pub fn is_free(place: &[u8]) -> bool
     ensures { result ≡ list_all (λ b. b == 0) place.now }
 {
     place.iter().all(|byte| *byte == 0)
 }
 
-/// The number in a place.
+/// The number in a slot.
 pub fn number_in(place: &[u8]) -> u16
     requires { length place.now ≡ 16 }
     ensures { result ≡ number_at 2 0 place.now }
@@ -35,7 +35,7 @@ pub fn number_in(place: &[u8]) -> u16
     LittleEndian::read_u16(place)
 }
 
-/// The name in a place: the bytes before the zeros at its end.
+/// The name in a slot: the bytes before the zeros at its end.
 pub fn name_in(place: &[u8]) -> &[u8]
     requires { length place.now ≡ 16 }
     ensures { result.now ≡ without_zeros (drop 2 place.now) }
