@@ -1,4 +1,4 @@
--- The names that the lemmas of this crate import from elsewhere, passed on from one place. Declares nothing.
+-- The names from elsewhere that the lemmas of this crate import, in one file. Declares nothing.
 pub use Rattle.std.proofs.Common.{◌%◌, ◌*◌, ◌+◌, ◌++◌, ◌-◌, ◌/◌, ◌<◌, [], ◌^◌, ap, append-nil, append_assoc, arith}
 pub use Rattle.std.proofs.Common.{Bool, drop, Err, false, inl, inr, is_some, length, List, map, min, None, Ok, Option}
 pub use Rattle.std.proofs.Common.{refl, replicate, Result, slice_set, Some, subst, suc, sym, take, true, unwrap_or}

@@ -63,7 +63,7 @@ greatest-is test {n} j k first second = elim (cases_lt j k) [
 
 -- ---- a file of which the first bytes are written
 
--- a write from a place of the file on, which gets no longer than files may be
+-- a write from an offset of the file on, which gets no longer than files may be
 pub record Writes (limit : ℕ) (files : Files) (n at : ℕ) (new : List ℕ) : Type 0 where
   pub file : IsFile files n
   pub start : at ≤ length file.bytes
@@ -110,12 +110,12 @@ module _ {limit : ℕ} {files : Files} {n at : ℕ} {new : List ℕ} (w : Writes
       lt-leb (blocks_of (front k)) limit
       (omega (arith, leb-false (blocks_of (front j)) limit over, front-grows j k less high))
 
-  -- so many go, and no more
+  -- that many are written, and no more
   fitting-stands : IsGreatest test (length new) fits-all
   unfolding fitting
   fitting-stands = greatest-stands (length new)
 
-  -- what is told of a write of them
+  -- what a write of them leaves
   pub told-written : {k : ℕ} → fits-all ≡ k
       → (files_after files (written limit files n at new) ≡ front k)
       × (Some k ≡ count_of (written limit files n at new))
@@ -145,7 +145,7 @@ pub record IsPiece (new : List ℕ) (done : ℕ) (q : List ℕ) : Type 0 where
   pub within : done + length q ≤ length new
   pub part : take done new ++ q ≡ take (done + length q) new
 
--- what a write tells
+-- what a write returns
 abbrev pub Tells : FileTree → FileTree → ℕ → ℕ → List ℕ → Option ℕ → Type 0
 Tells old now n at new told =
     (now ≡ record old {
@@ -164,7 +164,7 @@ pub record HasWritten (old now : FileTree) (n at : ℕ) (new : List ℕ) (done :
       (blocks_of (with_file old.files n file.links (overwrite file.bytes at (take done new)))) old.block_limit ≡ true)
   pub later : old.failures ≤ now.failures
 
--- where the place lies past the end, or the file would be too long, nothing is written
+-- where the offset lies past the end, or the file would be too long, nothing is written
 pub write-refused : (old : FileTree) {now : FileTree} {n at : ℕ} (new : List ℕ) (file : IsFile old.files n)
     → now ≡ record old { failures = now.failures } → (length file.bytes < at) ⊎ (longest < at + length new)
     → Tells old now n at new None
@@ -226,7 +226,7 @@ module _ {old now : FileTree} {n at : ℕ} {new : List ℕ} {done : ℕ} (has : 
   pub file-now : IsFile now.files n
   file-now = subst (λ (t : FileTree). IsFile t.files n) (sym has.same) mid
 
-  -- a piece more
+  -- one more piece
   module _ {q : List ℕ} (piece : IsPiece new done q) where
     fits : done + length q ≤ length new
     fits = piece.within
@@ -247,7 +247,7 @@ module _ {old now : FileTree} {n at : ℕ} {new : List ℕ} {done : ℕ} (has : 
         ∙ ap (take (done + k)) piece.part
         ∙ take-take (done + k) (done + length q) new (omega (arith, low))
 
-    -- bytes of the piece behind the first ones
+    -- bytes of the piece after the first ones
     joins : {k : ℕ} → k ≤ length q
         → with_file (first done) n has.file.links
         (overwrite (overwrite has.file.bytes at (take done new)) (at + done) (take k q)) ≡ first (done + k)
@@ -294,7 +294,7 @@ module _ {old now : FileTree} {n at : ℕ} {new : List ℕ} {done : ℕ} (has : 
             ∙ ap (λ (f : Files). record old { files = f; failures = next.failures })
             ((told-written piece-writes went-is).0 ∙ joins went-low)
 
-        -- where some go, there are blocks for them
+        -- where some are written, there are blocks for them
         passes : (done + k ≡ 0) ⊎ (nat_le (blocks_of (first (done + k))) old.block_limit ≡ true)
         passes = elim stands.passes [
           | inr can ↦ inr (ap (λ (f : Files). nat_le (blocks_of f) old.block_limit) (sym (joins went-low)) ∙ can)

@@ -39,7 +39,7 @@ length-overwrite bytes at new low =
       length-take-le at bytes low,
     )
 
--- bytes that stand behind others
+-- bytes that follow others
 pub overwrite-twice : (bytes : List ℕ) {at : ℕ} (xs ys : List ℕ) → at ≤ length bytes
     → overwrite (overwrite bytes at xs) (at + length xs) ys ≡ overwrite bytes at (xs ++ ys)
 overwrite-twice bytes {at} xs ys low =
@@ -136,7 +136,7 @@ written-sized (p ∷ ps) at new sized = elim (cases_lt at 4096) [
       (sized-more p _ (sized 0 p refl) (written-sized ps _ _ (sized-tail ps sized)))
 ]
 
--- bytes that are written behind others
+-- bytes that are written after others
 pub written-twice : (mem : Memory) (at : ℕ) (xs ys : List ℕ) → IsSized mem
     → write_bytes (write_bytes mem at xs) (at + length xs) ys ≡ write_bytes mem at (xs ++ ys)
 written-twice [] at xs ys sized = ap (λ (m : Memory). write_bytes m (at + length xs) ys) (write-empty at xs)
@@ -243,7 +243,7 @@ writes-rest mem at b d l {c} new sized can fits = ap (nat_le l) (reach-written _
 
 -- ---- a piece
 
--- what came into the buffer, and how many bytes
+-- the bytes in the buffer, and how many
 module _ (files : Files) (number offset : ℕ) (node : Node) (here : slot files number ≡ Some node) (old new : List ℕ)
     (k : ℕ) (count : k ≡ min (length old) (length (node_bytes node) - offset))
     (bytes : new ≡ part offset k (node_bytes node) ++ drop k old) where
@@ -269,7 +269,7 @@ held-there s at has = go (slot s.places at) has where
 pub space-within : (s : Spaces) (at : ℕ) → has_space s at ≡ true → at < length s.places
 space-within s at has = within _ at _ (sym (held-there s at has))
 
--- a place that has what it had
+-- a slot that has what it had
 pub self-held : (s : Spaces) (at : ℕ) → has_space s at ≡ true → s ≡ with_view s at (view_at s at)
 self-held s at has = ap (λ (ps : List (Option SpaceView)). record s { places = ps })
     (sym (ap (λ (o : Option SpaceView). slice_set s.places at o) (held-there s at has) ∙ set-get_or s.places at None))
@@ -283,7 +283,7 @@ module _ (s : Spaces) (at address : ℕ) (has : has_space s at ≡ true) where
     held-with : view_at (with_bytes s at address bytes) at ≡ written (view_at s at) address bytes
     held-with = held-same s at _ (space-within s at has)
 
-    -- bytes that come behind
+    -- bytes that follow
     pub with-more : (more : List ℕ) → IsSized (view_at s at).memory
         → with_bytes (with_bytes s at address bytes) at (address + length bytes) more
         ≡ with_bytes s at address (bytes ++ more)
@@ -323,7 +323,7 @@ module _ {old now : FileTree} {before after : Spaces} {at number offset address 
   pub read-end : count ≤ done → done ≡ length (bytes_read old.files number offset count)
   read-end over = let low = has.some in let high = has.within in omega (arith, over, low, high, length-take count rest)
 
-  -- a piece more
+  -- one more piece
   module _ {size got : ℕ} {next : FileTree} (fits : done + size ≤ count)
       (read : IsRead now next number (offset + done) size got) where
     abbrev left : List ℕ
@@ -386,7 +386,7 @@ read-none {t} {s} {at} {number} {offset} {address} {count} has = record {
 pub front-long : {count : ℕ} → count ≤ 64 → length (take count (replicate {A = ℕ} 64 0)) ≡ count
 front-long {count} low = length-take-le count (replicate 64 0) (omega (arith, low, length-replicate {A = ℕ} 64 0))
 
--- where it fails nothing has come
+-- where it fails nothing was read
 pub none-read : {T E : Type 0} (r : Result T E) {before after : Spaces} (at address : ℕ) (files : Files)
     (number offset count : ℕ) → has_space before at ≡ true → after ≡ before
     → OnErr r (ReadsSome before after at address files number offset count)
@@ -396,7 +396,7 @@ none-read (Err e) {before} at address files number offset count has same =
 
 -- ---- the next piece
 
--- the next bytes have places and addresses
+-- the next bytes have offsets and addresses
 pub next-low : (mem : Memory) (address : ℕ) {done count : ℕ} → IsSized mem → length mem ≤ 32768
     → can_write mem address count ≡ true → done < count → address + done < 2 ^ 27
 next-low mem address {done} {count} sized few can less =

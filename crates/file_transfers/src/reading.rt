@@ -12,10 +12,10 @@ use spaces::Spaces;
 use sv39::Translate;
 use tree::Tree;
 
-// A read of so many bytes at the most takes a buffer of that size: one of a block costs more than the read.
+// A read of at most that many bytes takes a buffer of that size: a buffer of a block costs more than the read.
 const SHORT: usize = 64;
 
-// Reads as many bytes as fit in a buffer, and puts them into the memory of a place.
+// Reads as many bytes as fit in a buffer, writes them into the memory of a slot, and returns how many.
 #[inline(always)]
 fn read_piece<D: BlockDev, T: Translate>(
     tree: &mut Tree<D>,
@@ -41,8 +41,8 @@ fn read_piece<D: BlockDev, T: Translate>(
     Ok(count)
 }
 
-/// Reads bytes of a node from the place `offset` on into the memory of a place from `address` on, at most `count` of
-/// them, and tells how many. Where the device fails the first of them may have come.
+/// Reads at most `count` bytes of a node from `offset` on into the memory of a slot from `address` on, and returns how
+/// many. Where the device fails the first of them may have been written.
 pub fn read_node<D: BlockDev, T: Translate>(
     tree: &mut Tree<D>,
     spaces: &mut Spaces<T>,

@@ -16,7 +16,7 @@ use spaces::Spaces;
 use sv39::Translate;
 use tree::Tree;
 
-// The bytes of a place from an address on, up to the end of its page, and so many at the most.
+// The bytes of a slot from an address on, up to the end of its page, at most `most`.
 fn piece<T: Translate>(spaces: &Spaces<T>, at: usize, address: u64, most: u64) -> &[u8]
     requires { has_space spaces.now at ≡ true }
     ensures { result.now ≡ take most (piece_at Load (view_at spaces.now at).memory address) }
@@ -29,7 +29,7 @@ fn piece<T: Translate>(spaces: &Spaces<T>, at: usize, address: u64, most: u64) -
     }
 }
 
-// Writes bytes into a file from a place on, as many as there are blocks for, and tells how many. `None`: nothing is
+// Writes bytes into a file from an offset on, as many as there are blocks for, and returns how many. `None`: nothing is
 // written.
 fn write_piece<D: BlockDev>(
     tree: &mut Tree<D>,
@@ -47,8 +47,8 @@ fn write_piece<D: BlockDev>(
     }
 }
 
-/// Writes `count` bytes of the memory of a place from `address` on into a file from the place `offset` on, as many as
-/// there are blocks for, and tells how many. `None` comes where `offset` lies past the file's end or the file would be
+/// Writes `count` bytes of the memory of a slot from `address` on into a file from `offset` on, as many as
+/// there are blocks for, and returns how many. `None`: `offset` lies past the file's end, or the file would be
 /// longer than any file of the disk's format; nothing is written then.
 pub fn write_node<D: BlockDev, T: Translate>(
     tree: &mut Tree<D>,
