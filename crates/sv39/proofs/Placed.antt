@@ -1,4 +1,4 @@
--- What places keep after one of them was filled or emptied.
+-- What slots keep after one of them was filled or emptied.
 use Rattle.ram.proofs.MemoryLemmas.{Ram}
 use Rattle.std.proofs.Common.{◌≡◌, ◌≢◌, ℕ, zero, suc, ◌%◌, ◌^◌, ◌<◌, inl, inr, List, [], ◌∷◌, length, Some, refl, ap}
 use Rattle.std.proofs.Common.{◌∙◌, arith, ◌/◌, sym}
@@ -32,14 +32,14 @@ get-only (x ∷ xs) zero (suc j) y z h = inl h
 get-only (x ∷ xs) (suc i) zero y z h = inl h
 get-only (x ∷ xs) (suc i) (suc j) y z h = get-only xs i j y z h
 
--- ---- the places of an access
+-- ---- the slots for an access
 
 placed-joins : (n : ℕ) (places : List Entry) (root page frame : ℕ) → page % n < length places → page < 2 ^ 52
     → IsPlaced n (slice_set places (page % n) (filled root page frame)) root page frame
 placed-joins n places root page frame inside bounded =
     record { entry = get-set places (page % n) (filled root page frame) inside; bounded = bounded }
 
--- ---- a place for an access is filled
+-- ---- a slot for an access is filled
 
 pub set-joins : (n : ℕ) (kept : Kept) (access : Access) (root page frame : ℕ)
     → page % n < length (for_access kept access) → page < 2 ^ 52

@@ -12,8 +12,8 @@ use crate::{Access, Fault, Pa, Translate, address, walked};
 use ram::{FrameNo, Ram};
 use std::marker::Model;
 
-/// Remembers translations, for each kind of access one in each of `N` places. A page's place is its number
-/// modulo `N`, and what is remembered answers only for its root, page and access.
+/// Remembers translations, for each kind of access one in each of `N` slots. A page's slot is its number
+/// modulo `N`, and what is remembered is used only for its root, page and access.
 #[derive(Drop)]
 pub struct Tlb<const N: usize> {
     places: Places<N>,
@@ -67,8 +67,8 @@ impl<const N: usize> Tlb<N> {
         walked.frame
     }
 
-    // The frame of an address: what is kept, or else what a walk finds. Both ways join here, at a frame, so that the
-    // hart's way from the physical address back to it is left out.
+    // The frame of an address: what is kept, or else what a walk finds. Both paths join here, at a frame, so that the
+    // hart's path from the physical address back to it is left out.
     #[inline(always)]
     fn frame(&mut self, ram: &Ram, root: FrameNo, va: u64, access: Access) -> Option<FrameNo>
         ensures found { IsFound (Keeps N self.old.kept) ram.now root.0 va access (numbered result) }
@@ -95,7 +95,7 @@ impl<const N: usize> Translate for Tlb<N> {
     #[inline(always)]
     fn translate(&mut self, ram: &Ram, root: FrameNo, va: u64, access: Access) -> Result<Pa, Fault>
         ensures answer { IsAnswer (Keeps N self.old.kept) ram.now root.0 va access (result_ok result) }
-        // what is held may be of another memory: where it lies inside this one, so does the answer
+        // what is held may be of another memory: where it lies inside this one, so does the result
         ensures inside { HoldsInside (Keeps N self.old.kept) ram.now → IfOk result (LiesInside ram.now) }
         ensures kept { IsKept (Keeps N self.old.kept) (Keeps N self.new.kept) ram.now root.0 }
         ensures hit { Hits (Keeps N self.old.kept) root.0 va access

@@ -1,4 +1,4 @@
-//! Places that keep translations, which translators share that remember some.
+//! Slots that keep translations, which translators share that remember some.
 ghost use Rattle.std.specs.Prelude.{◌≡◌, ℕ, ◌+◌, ◌-◌, ◌*◌, ◌/◌, ◌%◌, ◌^◌, ◌<◌, ◌≤◌, ◌⊎◌, length, IfSome, IfNone};
 ghost use Rattle.unixmodel.specs.Translation.{Translation};
 ghost use Rattle.sv39.specs.Lookaside.{Keeps, KeepsOthers, Misses, IsPlaced, IsWithin, asked, filled, for_access};
@@ -23,7 +23,7 @@ const NONE: Entry = Entry {
     frame: FrameNo(0),
 };
 
-// Places that keep nothing.
+// Slots that keep nothing.
 fn empty<const N: usize>() -> [Entry; N]
     ensures { (root page frame : ℕ) → ¬ IsPlaced N result root page frame }
 {
@@ -46,7 +46,7 @@ fn find<const N: usize>(places: &[Entry; N], root: FrameNo, page: u64) -> Option
     }
 }
 
-// An end behind a place too.
+// An end after a slot too.
 fn end_past(end: usize, at: usize) -> usize
     requires { at + 1 < 2 ^ 64 }
     ensures old { end ≤ result }
@@ -56,7 +56,7 @@ fn end_past(end: usize, at: usize) -> usize
     if at < end { end } else { at + 1 }
 }
 
-/// Places for translations, `N` for each kind of access. A page's place is its number modulo `N`. From `end` on all
+/// Slots for translations, `N` for each kind of access. A page's slot is its number modulo `N`. From `end` on all
 /// are empty, so that clearing them costs what was kept and not what could be.
 #[derive(Drop)]
 pub struct Places<const N: usize> {
@@ -77,7 +77,7 @@ impl<const N: usize> Model for Places<N> {
 }
 
 impl<const N: usize> Places<N> {
-    /// Places that keep nothing.
+    /// Slots that keep nothing.
     pub fn new() -> Places<N>
         requires { 0 < N }
         ensures { (t : Translation) → ¬ Keeps N result t }
@@ -111,7 +111,7 @@ impl<const N: usize> Places<N> {
         find(self.of(access), root, va / 4096)
     }
 
-    // Fills the place of a page.
+    // Fills the slot of a page.
     fn put(&mut self, root: FrameNo, page: u64, access: Access, frame: FrameNo)
         requires { page < 2 ^ 52 }
         ensures is { self.new ≡ set_for self.old access (page % N) (filled root.0 page frame.0) }
@@ -128,7 +128,7 @@ impl<const N: usize> Places<N> {
         }
     }
 
-    /// Keeps the frame of a page in the page's place.
+    /// Keeps the frame of a page in the page's slot.
     pub fn keep(&mut self, root: FrameNo, page: u64, access: Access, frame: FrameNo)
         requires { page < 2 ^ 52 }
         ensures joins { Keeps N self.new (of_page root.0 page access frame.0) }
@@ -139,7 +139,7 @@ impl<const N: usize> Places<N> {
         self.put(root, page, access, frame);
     }
 
-    /// Empties all places.
+    /// Empties all slots.
     pub fn clear(&mut self)
         ensures { (t : Translation) → ¬ Keeps N self.new t }
     {

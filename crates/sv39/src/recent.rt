@@ -1,4 +1,4 @@
-//! A translator that remembers what another one answered.
+//! A translator that remembers what another one returned.
 ghost use Rattle.std.specs.Prelude.{◌≡◌, ◌+◌, ◌-◌, ◌*◌, ◌/◌, ◌<◌, ◌⊎◌, List, length, Some, IfSome, IfNone, IfOk};
 ghost use Rattle.std.specs.Result.{result_ok};
 ghost use Rattle.unixmodel.specs.Translation.{place_in, Translation, IsAnswer, IsKept, HoldsNothing, HoldsInside};
@@ -30,8 +30,8 @@ fn frame_by<T: Translate>(
     }
 }
 
-/// Asks the translator below, and remembers its answers until it is fenced: for each kind of access one in each of 64
-/// places. A page's place is its number modulo 64, and what is remembered answers only for its root, page and access.
+/// Asks the translator below, and remembers its results until it is fenced: for each kind of access one in each of 64
+/// slots. A page's slot is its number modulo 64, and what is remembered is used only for its root, page and access.
 #[derive(Drop)]
 pub struct Recent<T: Translate> {
     below: T,
@@ -57,7 +57,7 @@ impl<T: Translate> Recent<T> {
         &self.below
     }
 
-    // Asks below, and remembers the answer.
+    // Asks below, and remembers the result.
     #[inline(never)]
     fn ask(&mut self, ram: &Ram, root: FrameNo, va: u64, access: Access) -> Option<FrameNo>
         requires { HoldsInside (T.held self.old.below) ram.now }
@@ -74,8 +74,8 @@ impl<T: Translate> Recent<T> {
         Some(frame)
     }
 
-    // The frame of an address: what is remembered, or else what the translator below answers. Both ways join here, at a
-    // frame, so that the hart's way from the physical address back to it is left out.
+    // The frame of an address: what is remembered, or else what the translator below returns. Both paths join here, at
+    // a frame, so that the hart's path from the physical address back to it is left out.
     #[inline(always)]
     fn frame(&mut self, ram: &Ram, root: FrameNo, va: u64, access: Access) -> Option<FrameNo>
         requires { HoldsInside (Knows T.held self.old.below self.old.places) ram.now }
