@@ -95,7 +95,7 @@ super_of-super_bytes s rest fits =
       bitmap_start = at 7 (omega arith) i;
     }
 
--- ---- the spelling of the record that bytes spell is these bytes
+-- ---- a record that is read from bytes is written as these bytes
 
 -- each is below 256
 abbrev pub AreBytes : List ℕ → Type 0
@@ -127,7 +127,7 @@ bytes-number (suc n) (x ∷ xs) h are =
     ap (λ r. little_bytes (suc n) (x + 256 * r)) (little_from-cons 0 n x xs)
     ∙ rw (bytes_low_first-suc 0 n (x + 256 * rest), low, high, bytes-number n xs (omega arith) (λ i. are (suc i))) refl
 
--- a number of n bytes that stand before others
+-- a number of n bytes that come before others
 pub in_front : (k n m : ℕ) (bytes : List ℕ) → k + n ≤ length bytes → AreBytes bytes
     → little_bytes n (little_number n (drop k bytes)) ++ take m (drop (k + n) bytes) ≡ take (n + m) (drop k bytes)
 in_front k n m bytes h are =

@@ -7,11 +7,11 @@ use Rattle.layout.specs.declared.Entry.{Entry}
 abbrev pub entry_of : List ℕ → Entry
 entry_of bytes = record { number = little_number 2 bytes; name = take 14 (drop 2 bytes) }
 
--- its spelling
+-- the bytes of an entry
 abbrev pub entry_bytes : Entry → List ℕ
 entry_bytes entry = little_bytes 2 entry.number ++ entry.name
 
--- what has a spelling
+-- an entry that its bytes can hold
 pub record EntryFits (entry : Entry) : Type 0 where
   pub number : entry.number < 2 ^ 16
   pub name : length entry.name ≡ 14

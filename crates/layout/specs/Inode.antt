@@ -17,7 +17,7 @@ inode_of bytes = record {
   addresses = numbers_in 13 (drop 12 bytes);
 }
 
--- what it is of
+-- its type
 abbrev pub inode_kind : DiskInode → Kind
 inode_kind inode = kind_read inode.kind inode.major inode.minor
 
@@ -32,14 +32,14 @@ fresh_inode kind links = record {
   addresses = replicate 13 0;
 }
 
--- its spelling
+-- its bytes
 abbrev pub inode_bytes : DiskInode → List ℕ
 inode_bytes inode =
     little_bytes 2 inode.kind
     ++ (little_bytes 2 inode.major ++ (little_bytes 2 inode.minor ++ (little_bytes 2 inode.links
     ++ (little_bytes 4 inode.size ++ spelled inode.addresses))))
 
--- what has a spelling
+-- an inode that its bytes can hold
 pub record Fits (inode : DiskInode) : Type 0 where
   pub kind : inode.kind < 2 ^ 16
   pub major : inode.major < 2 ^ 16

@@ -1,10 +1,10 @@
--- The kinds of inodes, as records tell them and as nodes have them.
+-- The kinds of inodes, as records and nodes have them.
 use Rattle.std.specs.Prelude.{if◌then◌else◌, ℕ, ◌==◌}
 use Rattle.layout.specs.declared.Kind.{Kind}
 use Rattle.layout.specs.declared.Kind.TheVariants.{Device, Directory, File, Free}
 use Rattle.unixmodel.specs.Files.{Node}
 
--- a type that there isn't is read as that of a device; no image with one is accepted
+-- an unknown type is read as that of a device; no image with one is accepted
 abbrev pub kind_read : ℕ → ℕ → ℕ → Kind
 kind_read number major minor =
     if number == 0 then Free
@@ -26,7 +26,7 @@ abbrev pub kind_minor : Kind → ℕ
 kind_minor (Device major minor) = minor
 kind_minor kind = 0
 
--- that of a node
+-- the kind of a node
 abbrev pub node_kind : Node → Kind
 node_kind (Node.File links bytes) = File
 node_kind (Node.Device links major minor) = Device major minor

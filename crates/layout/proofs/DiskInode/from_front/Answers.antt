@@ -3,7 +3,7 @@ use Rattle.layout.proofs.Common.{between_to_end, little_number, number_at, numbe
 use Rattle.layout.proofs.ReadsBack.{numbers_in-take, length-numbers_in, get_or-numbers_in, number_at-fits}
 use Rattle.layout.proofs.DiskInode.from_front.Goals as goal
 
--- what lies behind `&bytes[i..]`
+-- the bytes that `&bytes[i..]` refers to
 rest : (bytes : List ℕ) (n i : ℕ)
     → little_number n (take (length bytes - i) (drop i bytes)) ≡ little_number n (drop i bytes)
 rest bytes n i = ap (little_number n) (between_to_end bytes i (length bytes) (omega arith))
