@@ -130,7 +130,7 @@ module _ {m : Ram} {r : ℕ} (page : ℕ) (a : Access) (small : length m ≤ 327
       (is.sound (mid_node page) t (page / 512 % 512) (mid_is_node page) (sym at) (omega arith))
       ∙ below_mid (child_of (entry_of m t (page / 512 % 512))) (sym (table_at-low m r page at))
 
-  -- the walk goes by the map at a canonical page
+  -- the walk follows the map at a canonical page
   walk_of-tree : is_canonical page ≡ true → walk_of m r page a ≡ translation a (lookup_of m r page)
   unfolding walk_of walk_high
   walk_of-tree canonical =

@@ -1,4 +1,4 @@
--- The names that the lemmas of this crate import from elsewhere, passed on from one place. Declares nothing.
+-- The names from elsewhere that the lemmas of this crate import, in one file. Declares nothing.
 pub use Rattle.std.proofs.Common.{◌%◌, ◌*◌, ◌+◌, ◌++◌, ◌-◌, ◌/◌, ◌<◌, [], ◌^◌, ap, arith, bit_and, Bool, eq-eqb, false}
 pub use Rattle.std.proofs.Common.{get_or, get_or-set_other, inl, inr, leb, length, length-append, length-set, List, ltb}
 pub use Rattle.std.proofs.Common.{None, Option, refl, replicate, slice_set, Some, subst, sym, true, unwrap_or, ℕ, ◌∙◌}

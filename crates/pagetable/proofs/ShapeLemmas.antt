@@ -1,4 +1,4 @@
--- Lemmas on the tables that come and go.
+-- Lemmas on the tables that are added and removed.
 use Rattle.pagetable.proofs.Common.{Ram, Adds, ap, arith, cases_eq, extra_of, Frames, free_count, free_of, inl, inr}
 use Rattle.pagetable.proofs.Common.{Inserts, IsNode, IsPaged, IsTidy, IsUsed, length, length-append, lookup_of}
 use Rattle.pagetable.proofs.Common.{low_node, made, made_by, mid_node, missing, missing_by, Node, None, Option, refl}
@@ -9,7 +9,7 @@ use Rattle.pagetable.proofs.Common.{IsFreeList-same, length-set, no_table, repli
 use Rattle.pagetable.proofs.TreeLemmas.{cases_node, free_count-taken, child_of-some, leaf_of-some, child_of-zero}
 use Rattle.pagetable.proofs.TreeLemmas.{entry_of-zeros, free-first, further-taken, root_at}
 
--- ---- a page that comes
+-- ---- a page is added
 
 pub table_of-some : (m : Ram) (r : ℕ) (x : Node) (t : ℕ) → table_at m r x ≡ Some t → table_of m r x ≡ t
 table_of-some m r x t e = rw e refl
@@ -35,7 +35,7 @@ length-made m k r page =
     length-made_by (table_at m r (mid_node page)) (table_at m r (low_node page)) (table_of k r (mid_node page))
     (table_of k r (low_node page))
 
--- where the tables on the way to a page stand now, which weren't there or were these, and all others are as they were
+-- the tables on the way to a page are these now, which weren't there or were these, and all others are as they were
 pub Adds-by : (m l : Ram) (r page : ℕ) (s n : Frames) {t u : ℕ} {o q : Option ℕ} → o ≡ table_at m r (mid_node page)
     → q ≡ table_at m r (low_node page) → unwrap_or o t ≡ t → unwrap_or q u ≡ u → table_at l r (mid_node page) ≡ Some t
     → table_at l r (low_node page) ≡ Some u
@@ -91,7 +91,7 @@ pub Inserts-after : (m k l : Ram) (r page : ℕ) (value : ℕ × ℕ) → SameMa
 Inserts-after m k l r page value same ins =
     record { changed = ins.changed; others = λ p small ne. ins.others p small ne ∙ same p }
 
--- what a page that is mapped by these tables tells
+-- what holds of a page that is mapped by these tables
 pub record IsMapped (m k : Ram) (r page : ℕ) (s n : Frames) : Type 0 where
   pub adds : Adds m k r page s n
   pub taken : free_count m s ≡ missing m r page + free_count k n
@@ -111,7 +111,7 @@ mapped-by {m} {k} {r} {page} {s} {n} ins small is table adds =
       tidy = λ tidy. IsTidy-insert k tidy small ins adds.beside;
     }
 
--- ---- a page that goes
+-- ---- a page is removed
 
 pub some-none : {v : ℕ} → ◌≡◌ {A = Option ℕ} (Some v) None → ⊥
 some-none e = cc
@@ -142,7 +142,7 @@ low-first-same a b c d e = cc
 
 module _ {m k : Ram} {r page : ℕ} {s n : Frames} (is : IsTidy m r) (rem : Removes (lookup_of m r) (lookup_of k r) page)
     (drops : Adds k m r page n s) where
-  -- no table but the root is empty afterwards
+  -- no table except the root is empty afterwards
   pub IsTidy-remove : ((t : ℕ) → table_at k r (mid_node page) ≡ Some t → IsUsed k r (mid_node page))
       → ((t : ℕ) → table_at k r (low_node page) ≡ Some t → IsUsed k r (low_node page)) → IsTidy k r
   IsTidy-remove mid low = record {

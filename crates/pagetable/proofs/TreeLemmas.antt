@@ -60,7 +60,7 @@ entry_table n Root u up h = a_table u h refl
 entry_table n (Mid a) u up h = a_table u h refl
 entry_table n (Low a b) u up h = absurd up
 
--- ---- what the writes of the code are
+-- ---- the writes of the code
 
 pub Writes-put : (m : Ram) (t c e : ℕ) → IsMemory m → t < length m → c < 512 → e < 2 ^ 64
     → Writes m (put m t (8 * c) (word_bytes 8 e)) t c e
@@ -91,7 +91,7 @@ Links-put m t c u mem ht hu ne small fits =
       others = λ v nt nu. w.others v nt ∙ rest v nu;
     }
 
--- ---- places
+-- ---- nodes
 
 pub cases_node : (x y : Node) → (x ≡ y) ⊎ (x ≢ y)
 cases_node Root Root = inl refl
@@ -161,7 +161,7 @@ missing-is m r page e f = rw (← e, ← f) refl
 
 -- ---- tables that stay
 
--- what an entry leads to is at the place after x
+-- what an entry leads to is at the node after x
 table_at-next : (m : Ram) (r : ℕ) (x : Node) (t c : ℕ) → IsUpper x → table_at m r x ≡ Some t
     → table_at m r (next_node x c) ≡ child_of (entry_of m t c)
 unfolding table_at
@@ -179,7 +179,7 @@ pub leaf_at-same : (m k : Ram) (o : Option ℕ) (i : ℕ) → ((v : ℕ) → o �
 leaf_at-same m k None i h = refl
 leaf_at-same m k (Some v) i h = ap leaf_of (h v refl)
 
--- where each table stood before, and its entries are sound, there is a tree
+-- a tree whose tables are where they were, with sound entries, is a tree
 pub kept-tree : {m k : Ram} {r : ℕ} → IsTree m r → length k ≡ length m
     → ((y : Node) (v : ℕ) → IsNode y → table_at k r y ≡ Some v → table_at m r y ≡ Some v)
     → ((y : Node) (v i : ℕ) → IsNode y → table_at k r y ≡ Some v → i < 512 → IsEntry (length k) y (entry_of k v i))
@@ -195,7 +195,7 @@ not_held out x nx at e = out (record { place = x; is_node = nx; at_place = rw e 
 
 -- ---- a tree of which one entry changes
 
--- Entry c of the table t at x is another one, and so may be the table that stands after x.
+-- Entry c of the table t at x is another one, and so may be the table after x.
 record Changes (m k : Ram) (r : ℕ) (x : Node) (t c : ℕ) : Type 0 where
   pub tree : IsTree m r
   pub node : IsNode x
@@ -312,7 +312,7 @@ module _ {m k : Ram} {r : ℕ} {s : Frames} {t c e : ℕ} (is : IsPaged m r s) (
       λ v held. w.others v (not_among v t (free_of m s) held (is.apart x t nx at)) in
       (free_of-same m k s stays, IsFreeList-same m k s is.free w.count stays)
 
--- so many free frames are taken
+-- j free frames are taken
 pub free_count-taken : (m k : Ram) (s n : Frames) (j : ℕ) → length (free_of m s) ≡ j + length (free_of k n)
     → extra_of n ≡ extra_of s → IsFreeList k n → free_count m s ≡ j + free_count k n
 free_count-taken m k s n j e table is = omega (arith, ap (λ (t : List ℕ × ℕ). t.1) table, shared-is n)
@@ -382,7 +382,7 @@ module _ {m k : Ram} {r page t e : ℕ} {s : Frames} (w : IsWritten m k r s page
   write-others small p sp ne =
       looks (low_node page) written p (λ up. absurd up) (λ e h. ne (same_page p page sp small e h))
 
--- ---- a table that comes or goes
+-- ---- a table is added or removed
 
 -- the table after x is another one, and what is mapped stays
 pub record Turns (m k : Ram) (r : ℕ) (s n : Frames) (x : Node) (c : ℕ) (o : Option ℕ) : Type 0 where
@@ -432,7 +432,7 @@ module _ {m k : Ram} {r t c u : ℕ} {s n : Frames} {x : Node} (w : Attaches m k
   link-now : table_at k r (next_node x c) ≡ Some u
   link-now = next x linked w.upper ∙ ap child_of w.links.here ∙ child_of-table u
 
-  -- a table at a place is the new one, or was there
+  -- a table at a node is the new one, or was there
   link-cases : (y : Node) (v : ℕ) → IsNode y → table_at k r y ≡ Some v
       → ((y ≡ next_node x c) × (v ≡ u)) ⊎ ((y ≢ next_node x c) × (table_at m r y ≡ Some v))
   link-cases y v ny h = elim (cases_node y (next_node x c)) [
@@ -538,7 +538,7 @@ module _ {m k l : Ram} {r t c u : ℕ} {s n : Frames} {x : Node} (w : Detaches m
   gone : table_at l r (next_node x c) ≡ None
   gone = next x unlinked w.upper ∙ ap child_of cleared ∙ child_of-zero
 
-  -- a table that stays was there, and is not the one that left
+  -- a table that stays was there, and is not the one that was removed
   stood : (y : Node) (v : ℕ) → IsNode y → table_at l r y ≡ Some v → (y ≢ next_node x c) × (table_at m r y ≡ Some v)
   stood y v ny h = elim (cases_node y (next_node x c)) [
     | inl same ↦ absurd (let none : table_at l r y ≡ None = rw same gone in cc)
@@ -570,7 +570,7 @@ module _ {m k l : Ram} {r t c u : ℕ} {s n : Frames} {x : Node} (w : Detaches m
     beside = λ y ny ne. stays x unlinked y ny (λ _. ne);
   }
 
--- ---- a page table outlives what is done beside it
+-- ---- a page table stays intact whatever is done beside it
 
 -- the tables keep their bytes
 abbrev pub KeepsTables : Ram → Ram → ℕ → Type 0

@@ -1,4 +1,4 @@
--- The walk goes by the map.
+-- The walk follows the map.
 use Rattle.std.proofs.Common.{ℕ, ◌≡◌, List, Option, Some, None}
 use Rattle.std.specs.Prelude.{if◌then◌else◌}
 use Rattle.unixmodel.specs.declared.trap.Access.{Access}

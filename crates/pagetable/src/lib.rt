@@ -43,7 +43,7 @@ pub struct Full;
 
 /// A page table, by the frame of its root.
 ///
-/// A value is only the name of the tables that stand in the memory, and may be copied.
+/// A value is only the name of the tables that lie in the memory, and may be copied.
 #[derive(Clone, Copy, PartialEq, Eq, Debug)]
 pub struct PageTable {
     pub root: FrameNo,
@@ -59,7 +59,7 @@ fn bits_if(set: bool, mark: EntryBits) -> u16
 
 /// The marks of the leaf of a page: V, R, A and D are set, and W, X and U as said.
 ///
-/// The walk sets no A or D, so they stand from the start; without U a program has no access.
+/// The walk sets no A or D, so they are set from the start; without U a program has no access.
 #[tactic(auto, unfolding(crate::specs::Marks::leaf_marks))]
 pub fn leaf_marks(writable: bool, executable: bool, user: bool) -> EntryBits
     ensures marks { result.0
@@ -305,9 +305,9 @@ impl PageTable {
         write(ram, low, page % ENTRIES, frame, marks);
     }
 
-    /// Maps a page to a frame, in place of what it was mapped to.
+    /// Maps a page to a frame, instead of what it was mapped to.
     ///
-    /// The tables on the way that don't stand yet, at most 2, come from the free frames and are
+    /// The tables on the way that are missing, at most 2, are made of the free frames and are
     /// cleared first. Where fewer frames are free than that it changes nothing and returns `Full`.
     pub fn map(
         &self,
@@ -359,7 +359,7 @@ impl PageTable {
         }
     }
 
-    /// Gives a page that is mapped other marks; its frame stays.
+    /// Sets the marks of a page that is mapped; its frame stays.
     pub fn set_perm(&self, ram: &mut Ram, frames: &Frames, page: u64, marks: EntryBits)
         requires paged { IsPaged ram.old self.now.root.0 frames.now }
         requires page { page < 2 ^ 27 }
@@ -381,7 +381,7 @@ impl PageTable {
         self.set_leaf(ram, frames, page, table, frame, marks);
     }
 
-    /// Gives a page that is mapped another frame and other marks. No table comes or goes.
+    /// Maps a page that is mapped to another frame with other marks. No table is added or removed.
     pub fn remap(&self, ram: &mut Ram, frames: &Frames, page: u64, frame: FrameNo, marks: EntryBits)
         requires paged { IsPaged ram.old self.now.root.0 frames.now }
         requires page { page < 2 ^ 27 }
@@ -452,7 +452,7 @@ impl PageTable {
 
     /// Takes a page out of the map, and returns the frame that it was mapped to.
     ///
-    /// A table that maps nothing from then on goes back to the free frames, so no table but the root
+    /// A table that maps nothing from then on goes back to the free frames, so no table except the root
     /// is ever empty. The page's own frame is the caller's.
     pub fn unmap(&self, ram: &mut Ram, frames: &mut Frames, page: u64) -> FrameNo
         requires paged { IsPaged ram.old self.now.root.0 frames.old }
