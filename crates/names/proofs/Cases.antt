@@ -6,7 +6,7 @@ use Rattle.names.proofs.Common.{make_at, unlinked, KeepsLive, KeepsTree, folders
 use Rattle.names.proofs.Changing.{keeps-linked, keeps-made, keeps-made-directory, keeps-unlinked}
 use Rattle.names.proofs.Quiet.{leaves, releases, writes-bytes}
 
--- an entry, and the two that a directory starts with
+-- an entry, and the two that a directory begins with
 abbrev e : List ℕ → ℕ → Option Entry
 e name n = Some (record { name = name; number = n })
 

@@ -1,4 +1,4 @@
--- The names that the lemmas of this crate import from elsewhere, passed on from one place. Declares nothing.
+-- The names from elsewhere that the lemmas of this crate import, in one file. Declares nothing.
 pub use Rattle.std.proofs.Common.{◌*◌, ◌+◌, ◌++◌, ◌-◌, ◌<◌, [], ap, ap₂, arith, Bool, cond, drop, false, get_or, inl}
 pub use Rattle.std.proofs.Common.{inr, length, List, map, None, not, Option, refl, set, Some, subst, suc, sym, take}
 pub use Rattle.std.proofs.Common.{true, zero, ℕ, ◌∙◌, ◌∷◌, ◌≡◌, ◌≢◌, ◌≤◌, ◌⊎◌}

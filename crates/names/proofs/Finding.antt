@@ -1,4 +1,4 @@
--- What the definitions of calls on names tell where they answer.
+-- What follows where the definitions of calls on names have a result.
 use Rattle.names.proofs.Common.{◌≡◌, ◌≢◌, ℕ, suc, ◌+◌, ◌*◌, ◌<◌, ◌≤◌, Bool, true, false, cond, List, [], ◌∷◌, None}
 use Rattle.names.proofs.Common.{Option, Some, inl, inr, length, drop, get_or, set, ap, sym, refl, ◌∙◌, arith, subst}
 use Rattle.names.proofs.Common.{bytes_eq, count_by, is_none, nat_lt, option_map, cases_eq, cases_lt, cond-true}
@@ -19,7 +19,7 @@ use Rattle.std.specs.Prelude.{◌&&◌, filter, IfSome, nat_le, option_and_then,
 use Rattle.unixmodel.specs.Files.{entry_number, follow, has_name, live_places, live_spot, onto_first, pieces}
 use Rattle.unixmodel.specs.Files.{split_last, start_of, with_last, with_places}
 
--- ---- places of a list
+-- ---- slots of a list
 
 pub slot-within : {X : Type 0} (xs : List (Option X)) (k : ℕ) (x : X) → slot xs k ≡ Some x → k < length xs
 slot-within xs k x h = elim (cases_lt k _) [
@@ -45,7 +45,7 @@ pub mapped : {A B : Type 0} (f : A → B) (o : Option A) (y : B) → option_map 
 mapped f None y h = absurd (none-some y h)
 mapped f (Some x) y h = (x, refl, same_Some _ y h)
 
--- the places of a directory that has links
+-- the slots of a directory that has links
 pub living : (o : Option Node) (places : List (Option Entry)) → live_places o ≡ Some places
     → (links : ℕ) × (o ≡ Some (Directory (suc links) places))
 living (Some (Directory (suc links) ps)) places h =
@@ -69,7 +69,7 @@ free-number files n h =
       within = omega (arith, e, is.0, length-drop 1 files);
     }
 
--- ---- a name more
+-- ---- one more name
 
 -- d is a directory with links that has no such name, and it is a name
 pub record IsGap (files : Files) (at : Spot) : Type 0 where
@@ -107,7 +107,7 @@ enter-parts files at n more h =
       is = sym new.2 ∙ change-is files at.directory (λ node. with_places node new.0) (Directory (suc is.0) places) is.1;
     })
 
--- the places fit into a file
+-- the slots fit into a file
 pub entered-size : (places : List (Option Entry)) (e : Entry) (qs : List (Option Entry))
     → with_entry places e ≡ Some qs → 16 * length places ≤ longest → 16 * length qs ≤ longest
 unfolding with_entry
@@ -184,7 +184,7 @@ module _ (files : Files) (d links : ℕ) (places : List (Option Entry)) (name : 
   pub absent-none : (live : IsLive files d links places) → lookup files d name ≡ None → called name places ≡ 0
   absent-none live absent = no-place name (two-places live.own live.parent) (nowhere absent)
 
-  -- "." and ".." stand there
+  -- "." and ".." are there
   not-place : (k : ℕ) (e : Entry) → lookup files d name ≡ None → slot places k ≡ Some e → bytes_eq name e.name ≡ false
   not-place k e absent at =
       let away = ap (has_name name) (sym at)
@@ -195,9 +195,9 @@ module _ (files : Files) (d links : ℕ) (places : List (Option Entry)) (name : 
   pub absent-plain : (live : IsLive files d links places) → lookup files d name ≡ None → is_dot_name name ≡ false
   absent-plain live absent = or_from _ _ (not-place 0 _ absent live.own) (not-place 1 _ absent live.parent)
 
--- ---- a name less
+-- ---- one name less
 
--- the name stands at place k of d, past the first two, and is that of node n
+-- the name is in slot k of d, past the first two, and is that of node n
 pub record IsNamed (files : Files) (at : Spot) (k n : ℕ) : Type 0 where
   pub links : ℕ
   pub places : List (Option Entry)
@@ -271,7 +271,7 @@ unlink-parts files at more h =
           is = sym is.1;
         }
 
--- ---- where the last name of a path is to stand
+-- ---- where the last name of a path goes
 
 -- ---- the parts of a path without a 0: 1 to 14 bytes, without a slash
 
@@ -408,7 +408,7 @@ gap-from {files} keeps at spot absent = record {
   absent = absent;
 }
 
--- ---- each place of a directory that has links is of a node
+-- ---- each slot in use of a directory with links names a node
 
 -- what has a name, and what names, is a node
 wanted-used : (n : ℕ) (o : Option Node) → 1 ≤ names_for n o → IsSome o

@@ -1,4 +1,4 @@
--- Changes that leave all names: a node without links goes, or a file has other bytes.
+-- Changes that leave all names: a node without links goes, or a file gets other bytes.
 use Rattle.names.proofs.Common.{◌≡◌, ◌≢◌, ℕ, zero, suc, ◌+◌, ◌≤◌, Bool, true, false, cond, List, [], ◌∷◌, ◌++◌, None}
 use Rattle.names.proofs.Common.{Option, Some, inl, inr, ◌⊎◌, drop, length, set, take, ap, sym, refl, ◌∙◌, cond_both}
 use Rattle.names.proofs.Common.{cond_some, arith, subst, nat_lt, option_map, unwrap_or, cases_eq, cond-false, cond-true}
@@ -52,7 +52,7 @@ module _ {files : Files} (keeps : KeepsTree files) (more : Files) (count : lengt
         keeps.ranked d n by (sym (kinds n (omega (arith, by, names_by-le files d n))) ∙ directory);
   }
 
--- one node that isn't the root is another, which is alike
+-- one node that isn't the root changes to one that is alike
 keeps-put : {files : Files} → KeepsTree files → (n : ℕ) (node : Node) (q : Option Node) → slot files n ≡ Some node
     → 1 ≢ n → IsAlike n (Some node) q → KeepsTree (set files n q)
 keeps-put {files} keeps n node q here away alike =
@@ -295,7 +295,7 @@ module _ (used : ℕ → Bool) (files more : Files) (settled : IsSettled (is_hel
     | inr s ↦ or_left (nat_lt 0 (links_of node)) (used m) (lt-ltb 0 (links_of node) (omega arith))
   ]
 
-  -- with a name less the node that had it goes, if it has no links and nothing uses it
+  -- with one name less the node that had it goes, if it has no links and nothing uses it
   pub loses-reaped : {at : Spot} (loses : Loses files more at) (node : Node) → slot more loses.number ≡ Some node
       → kept (is_held used) 0 more ≡ (if is_held used loses.number node then more else clear more loses.number)
   loses-reaped loses node here = kept-but _ more _ node here (λ m x s at. idle-held m x (loses.idle m s) at)
