@@ -1,6 +1,5 @@
--- The trap frame of a space: a program's registers while it doesn't run.
--- Numbers of 8 bytes, the lowest first: the program counter from offset 24 on, and register x1 to x31, each at 32 and 8
--- times its number.
+-- The trap frame of a space, which has room for a program's registers.
+-- Numbers of 8 bytes, the lowest first: the pc at offset 24, and register x1 to x31, each at 32 and 8 times its number.
 use Rattle.std.specs.Prelude.{◌≡◌, ◌<◌, ◌≤◌, ◌⊎◌, ℕ, ◌+◌, ◌*◌, List, ◌∷◌, map, slice_index_or}
 use Rattle.std.specs.List.{range_with_len}
 use Rattle.ram.specs.Memory.{word_of}

@@ -1,8 +1,10 @@
-//! The trap frame: a program's registers while it doesn't run.
+//! The trap frame: a frame of each space that has room for a program's registers, laid out as xv6's.
 //!
-//! It is laid out as xv6 lays it out: numbers of 8 bytes, the lowest first, the program counter from
-//! offset 24 on, and register x1 to x31 each at 32 and 8 times its number. Its other bytes are 0 in a
-//! new space, and stay.
+//! No machine writes one: the registers of a process that doesn't run are in the table of processes (`proc`).
+//! `save_regs` and `load_regs` are for who uses a space by itself, as tests do.
+//! Its numbers have 8 bytes, the lowest first: the pc at offset 24, and register x1 to x31 each at 32 and 8 times its
+//! number.
+//! Its other bytes are 0 in a new space, and stay.
 
 ghost use Rattle.std.specs.Prelude.{◌≡◌, ◌+◌, ◌*◌, ◌^◌, ◌<◌, ◌≤◌, List, length, slice_index};
 ghost use Rattle.vm.specs.Space.{IsMapped, IsOnce, pages_of, Stands};
