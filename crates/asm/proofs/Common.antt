@@ -1,4 +1,4 @@
--- The names that the lemmas of this crate import from elsewhere, passed on from one place. Declares nothing.
+-- The names that the lemmas of this crate import from other crates, passed on here. Declares nothing.
 pub use Rattle.std.proofs.Common.{◌%◌, ◌*◌, ◌+◌, ◌++◌, ◌-◌, ◌/◌, ◌<◌, ◌==◌, [], ◌^◌, add-one, ap, append_assoc, arith}
 pub use Rattle.std.proofs.Common.{Bool, bytes_eq, cond, drop, Err, false, find, get_or, if◌then◌else◌, inl, inr, is_ok}
 pub use Rattle.std.proofs.Common.{length, length-append, List, map, neg_ℤ, negsuc, None, not, Ok, OnOk, Option}

@@ -68,7 +68,7 @@ noted old new label i updates absent name =
     (λ t. is_none_of _ (ap (λ other. is_some (get_by (λ k. bytes_eq other k.now) old))
     (sym ((bytes_eq-Decides label name).0 t)) ∙ absent))
 
--- what a slice tells of a place, as its items are seen
+-- what a slice has at an index, as its items are seen
 pub shown : {X Y : Type 0} (f : X → Y) (xs : List X) (i : ℕ) (r : Option (Bor X))
     → MatchOption r (length xs ≤ i) (λ x. (i < length xs) × HoldsAt (λ y. x.now ≡ y) xs i)
     → IfSome r (λ x. x.now ≡ get_or xs i x.now)

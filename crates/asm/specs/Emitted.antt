@@ -1,4 +1,4 @@
--- What a line puts out, and what is told of a text.
+-- What a line puts out, and what a text becomes.
 use Rattle.std.specs.Prelude.{◌≡◌, ◌⊎◌, ◌++◌, ◌∷◌, ◌*◌, ◌-◌, ◌^◌, Err, List, Ok, Result, [], if◌then◌else◌, ℕ, ℤ}
 use Rattle.unixmodel.specs.Memory.{zeros}
 use Rattle.unixmodel.specs.Assembly as the
@@ -28,7 +28,7 @@ coded_seen (Err k) = Err k
 abbrev pub Tells : Result (List ℕ) (ℕ × AsmKind) → AsmFault → Type 0
 Tells told fault = (told ≡ Err (fault.line, fault.kind)) ⊎ ((fault.line ≡ 0) × (fault.kind ≡ kind.NoMemory))
 
--- bytes before what is told
+-- the bytes before those of a result, if it has any
 abbrev pub behind : List ℕ → Result (List ℕ) (ℕ × AsmKind) → Result (List ℕ) (ℕ × AsmKind)
 behind bytes (Ok more) = Ok (bytes ++ more)
 behind bytes (Err fault) = Err fault
@@ -39,7 +39,7 @@ numbered_bytes address partial n =
     if lies_in (below_of partial) (above_of partial) n
     then the.code address (partial_instr partial (field (bits_of partial) n) ∷ []) else Err kind.Range
 
--- a number as so many bytes, signed or unsigned
+-- a number as `size` bytes, signed or unsigned
 abbrev pub data_bytes : ℕ → ℤ → Result (List ℕ) AsmKind
 data_bytes size n = if lies_in (2 ^ (8 * size - 1)) (2 ^ (8 * size) - 1) n then Ok (le size (field (8 * size) n))
     else Err kind.Range

@@ -1,4 +1,4 @@
--- Lines where they stand, as the definitions see them.
+-- Lines at their addresses, as the definitions see them.
 use Rattle.std.specs.Prelude.{None, Option, Some, if◌then◌else◌, negsuc, pos, ℕ, ℤ}
 use Rattle.unixmodel.specs.Assembly.{Placed as ThePlaced, is_step}
 use Rattle.asmtext.specs.Statements.{line_seen}

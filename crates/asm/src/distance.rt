@@ -20,7 +20,7 @@ pub enum Distance<'a> {
     Between(u128, u128),
 }
 
-// The field of so many bits that the way between addresses has, where it lies from -below to above.
+// The field of `bits` bits that has the distance between addresses, where it lies from -below to above.
 fn field_between(from: u128, to: u128, below: u64, above: u64, bits: u32) -> Option<u64>
     requires { (bits ≤ 64) × (below < 2 ^ bits) × (above < 2 ^ bits) }
     ensures { result ≡ field_within below above bits (away from to) }
@@ -40,7 +40,7 @@ fn field_between(from: u128, to: u128, below: u64, above: u64, bits: u32) -> Opt
 }
 
 impl<'a> Distance<'a> {
-    /// The field of so many bits that it has, where it lies from -below to above.
+    /// The field of `bits` bits that has it, where it lies from -below to above.
     pub fn field_in(&self, below: u64, above: u64, bits: u32) -> Option<u64>
         requires { (bits ≤ 64) × (below < 2 ^ bits) × (above < 2 ^ bits) }
         ensures { result ≡ field_within below above bits (distance_seen self.now) }
@@ -51,7 +51,7 @@ impl<'a> Distance<'a> {
         }
     }
 
-    /// The offset of so many bits that goes so far.
+    /// The offset of `bits` bits that goes this far.
     pub fn offset(&self, bits: u32) -> Result<u64, AsmKind>
         requires { (1 ≤ bits) × (bits ≤ 32) }
         ensures is { result ≡ the.offset_field bits (distance_seen self.now) }

@@ -1,4 +1,4 @@
-//! The second pass: the bytes of each line where it stands, or what is wrong with it.
+//! The second pass: the bytes of each line at its address, or what is wrong with it.
 ghost use Rattle.std.specs.Prelude.{◌≡◌, ◌*◌, ◌-◌, ◌++◌, ◌∷◌, [], Some, if◌then◌else◌, IfErr, IfOk, OnOk, map};
 ghost use Rattle.unixmodel.specs.Assembly as the;
 ghost use Rattle.asmtext.specs.Forms.{size_of};
@@ -265,7 +265,7 @@ fn put(out: &mut Vec<u8>, output: Output) -> Result<(), AllocError>
     }
 }
 
-/// The bytes of lines where they stand, or the first fault.
+/// The bytes of lines at their addresses, or the first fault.
 #[tactic(auto, unfolding(unixmodel::specs::Assembly::codes_from))]
 pub fn codes(alloc: Global, placed: &[Placed]) -> Result<Vec<u8>, AsmFault>
     ensures ok { IfOk result

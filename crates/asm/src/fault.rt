@@ -5,7 +5,7 @@ use std::alloc::AllocError;
 use thiserror::Error;
 use unixmodel::assembly::AsmKind;
 
-/// What is wrong with a text: the line, from 1 on, and the kind. Memory that ran out is told with line 0.
+/// What is wrong with a text: the line, from 1 on, and the kind. Lack of memory is reported with line 0.
 #[derive(Clone, Copy, PartialEq, Eq, Debug, Error)]
 #[error("line {line}: {kind:?}")]
 pub struct AsmFault {

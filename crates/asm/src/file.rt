@@ -18,7 +18,7 @@ impl From<AllocError> for NoMemory {
     }
 }
 
-// Where the program stands in the file.
+// The program's offset in the file.
 const PROGRAM_AT: usize = 4096;
 
 const HEADER: [u8; 64] = [
@@ -38,7 +38,7 @@ const HEADER: [u8; 64] = [
 const SEGMENT: [u8; 32] = [
     // loaded, with leave to read, write and execute
     1, 0, 0, 0, 7, 0, 0, 0,
-    // where it stands in the file
+    // offset in the file
     0, 16, 0, 0, 0, 0, 0, 0,
     // virtual and physical address
     0, 0, 0, 0, 0, 0, 0, 0, 0, 0, 0, 0, 0, 0, 0, 0,

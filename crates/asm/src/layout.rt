@@ -1,4 +1,4 @@
-//! Where each line stands.
+//! The address of each line.
 ghost use Rattle.std.specs.Prelude.{◌≡◌, ◌≤◌, ◌^◌, ◌<◌, IfOk, IfSome, map};
 ghost use Rattle.unixmodel.specs.Assembly as the;
 ghost use Rattle.unixmodel.specs.Statements as statements;
@@ -21,7 +21,7 @@ pub struct Placed<'a> {
     pub line: &'a Line<'a>,
 }
 
-// How many bytes may still stand at an address.
+// How many bytes fit between an address and the limit.
 fn room_at(address: u128) -> u32
     ensures is { result ≡ the.room_at address }
     ensures within { result ≤ 270336 }
@@ -32,7 +32,7 @@ fn room_at(address: u128) -> u32
     (LIMIT - address) as u32
 }
 
-/// So many zeros, where there is room.
+/// How many zeros a number asks for, where there is room.
 #[tactic(auto, using(crate::proofs::LayoutLemmas::zeros_within))]
 pub fn zeros(address: u128, number: &Number) -> Option<u32>
     ensures { result ≡ the.filled address (statements.Statement.Zeros (number_of number.now)) }
@@ -91,7 +91,7 @@ pub fn size_of_line(address: u128, says: &Result<Statement, AsmKind>) -> u128
     }
 }
 
-/// Where the lines stand, the first at 0.
+/// The lines with their addresses, the first at 0.
 #[tactic(auto, unfolding(unixmodel::specs::Assembly::placed_from))]
 pub fn place<'a>(alloc: Global, lines: &'a [Line<'a>]) -> Result<Vec<Placed<'a>>, AllocError>
     ensures { IfOk result (λ placed. map placed_seen placed.items ≡ the.placed_from 1 0 (map line_seen lines.now)) }

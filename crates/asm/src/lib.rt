@@ -1,6 +1,6 @@
 //! The assembler: from assembly text to an ELF file.
 //!
-//! A text is read line by line (`asmtext`), each line is placed at its address, and then put out where it stands.
+//! A text is read line by line (`asmtext`), each line gets its address, and then it is put out there.
 #![tactic(auto)]
 
 mod assembler;

@@ -1,4 +1,4 @@
--- The names that the lemmas of this crate import from elsewhere, passed on from one place. Declares nothing.
+-- The names that the lemmas of this crate import from other crates, passed on here. Declares nothing.
 pub use Rattle.std.proofs.Common.{◌%◌, ◌+◌, ◌++◌, ◌-◌, ◌<◌, ◌==◌, [], ◌^◌, add-one, ap, append_assoc, ap₂, arith, Bool}
 pub use Rattle.std.proofs.Common.{Bor, bytes_eq, codes, cond, drop, drop-cons, false, fold, get_or, if◌then◌else◌}
 pub use Rattle.std.proofs.Common.{length, List, map, nat_le, nat_lt, neg_ℤ, negsuc, None, not, Option, option_map, pos}

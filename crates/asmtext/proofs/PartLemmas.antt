@@ -62,7 +62,7 @@ blank_test : (symbols : List Symbol)
 blank_test symbols = rw (prefix_len-map (the.is_plain the.is_blank) symbol_of symbols, length-map symbols symbol_of)
     refl
 
--- no parts where nothing but blanks stands
+-- no parts where there is nothing but blanks
 pub no_parts : (symbols : List Symbol) → prefix_len is_blank_symbol symbols ≡ length symbols
     → the.parts_of (map symbol_of symbols) ≡ []
 unfolding the.parts_of
@@ -70,7 +70,7 @@ no_parts symbols all =
     ap (λ b. if b then [] else map the.trimmed (slice_split (the.is_plain (λ c. c == 0x2c)) (map symbol_of symbols)))
     (blank_test symbols ∙ eq-eqb (prefix_len is_blank_symbol symbols) (length symbols) all)
 
--- else they are what stands between the commas
+-- else they are what lies between the commas
 pub some_parts : (symbols : List Symbol) (split : List (Bor (List Symbol)))
     → ¬ (prefix_len is_blank_symbol symbols ≡ length symbols)
     → map (λ (part : Bor (List Symbol)). part.now) split ≡ slice_split is_comma symbols

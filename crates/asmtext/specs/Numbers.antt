@@ -17,7 +17,7 @@ base_of radix.Hexadecimal = 16
 abbrev pub number_of : Number → ℤ
 number_of n = signed_of n.negative (digits_value (base_of n.radix) n.digits.items)
 
--- the field of so many bits that a number has, where it lies from -below to above
+-- the field of `bits` bits that has a number, where it lies from -below to above
 abbrev pub field_within : (below above bits : ℕ) (n : ℤ) → Option ℕ
 field_within below above bits n = if lies_in below above n then Some (field bits n) else None
 

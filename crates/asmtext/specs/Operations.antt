@@ -47,7 +47,7 @@ partial_instr (partial.Numbered op rd rs1) = numbered_instr op rd rs1
 partial_instr (partial.Based op register rs1) = based_instr op register rs1
 partial_instr (partial.Upper op rd) = upper_instr op rd
 
--- ---- its number lies from -below to above, and stands in a field of so many bits
+-- ---- its number lies from -below to above, and is put into a field of this many bits
 
 abbrev pub number_below : NumberOp → ℕ
 number_below (numbered.Imm op) = 2048

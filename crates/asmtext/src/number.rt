@@ -120,7 +120,7 @@ fn magnitude(radix: u32, digits: &[u8], most: u64) -> Option<u64>
     Some(value)
 }
 
-// The field of so many bits that a number below 0 has.
+// The field of `bits` bits that has the number -size.
 #[tactic(auto, using(crate::proofs::NumberLemmas::field_negated))]
 fn negated(size: u64, bits: u32) -> u64
     requires { (bits ≤ 64) × (size < 2 ^ bits) }
@@ -133,7 +133,7 @@ fn negated(size: u64, bits: u32) -> u64
 }
 
 impl Number {
-    /// The field of so many bits that the number has, where it lies from -below to above.
+    /// The field of `bits` bits that has the number, where it lies from -below to above.
     pub fn field_in(&self, below: u64, above: u64, bits: u32) -> Option<u64>
         requires { (bits ≤ 64) × (below < 2 ^ bits) × (above < 2 ^ bits) }
         ensures { result ≡ field_within below above bits (number_of self.now) }

@@ -29,7 +29,7 @@ fn characters(alloc: Global, part: &[Symbol]) -> Result<Option<Vec<u8>>, AllocEr
     Ok(Some(text))
 }
 
-// How many characters stand before the first opening parenthesis.
+// How many characters come before the first opening parenthesis.
 fn parenthesis(text: &[u8]) -> usize
     ensures is { result ≡ position_or_len (λ c. c == 0x28) text.now }
     ensures within { result ≤ length text.now }
@@ -37,7 +37,7 @@ fn parenthesis(text: &[u8]) -> usize
     text.iter().take_while(|c| **c != b'(').count()
 }
 
-// What stands before and behind the first opening parenthesis.
+// What comes before and after the first opening parenthesis.
 fn split_at_parenthesis(text: &[u8]) -> (&[u8], &[u8])
     ensures before { result.0.now ≡ before_first (λ c. c == 0x28) text.now }
     ensures behind { result.1.now ≡ after_first (λ c. c == 0x28) text.now }

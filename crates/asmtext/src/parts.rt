@@ -1,4 +1,4 @@
-//! The parts of a statement: what stands between its commas.
+//! The parts of a statement: what lies between its commas.
 ghost use Rattle.std.specs.Prelude.{◌≡◌, ◌≤◌, ◌==◌, IfOk, length, map};
 ghost use Rattle.std.specs.List.{prefix_len, slice_split, suffix_len};
 ghost use Rattle.unixmodel.specs.Tokens as the;
@@ -26,7 +26,7 @@ fn is_blank_symbol(symbol: &Symbol) -> bool
     }
 }
 
-// How many blanks stand at the front, and at the end.
+// How many blanks are at the front, and at the end.
 fn blanks_before(symbols: &[Symbol]) -> usize
     ensures is { result ≡ prefix_len is_blank_symbol symbols.now }
     ensures within { result ≤ length symbols.now }

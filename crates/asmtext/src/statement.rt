@@ -6,7 +6,7 @@ use crate::operations::Partial;
 use unixmodel::assembly::AsmKind;
 use unixmodel::instr::{BranchOp, Instr, Reg};
 
-/// An instruction that goes to a place, but for the place.
+/// An instruction that jumps, without its target.
 #[derive(Clone, Copy)]
 pub enum Leap {
     /// If the registers compare so.
@@ -30,7 +30,7 @@ pub enum Statement {
     Whole(Instr),
     /// One with a number.
     Numbered(Partial, Number),
-    /// One that goes to a place.
+    /// One that jumps.
     Jump(Leap, Target),
     /// A number or an address into a register.
     Load(Reg, Target),
@@ -38,7 +38,7 @@ pub enum Statement {
     Data(Width, Number),
     /// Bytes.
     Text(Vec<u8>),
-    /// So many zeros.
+    /// That many zeros.
     Zeros(Number),
     /// Zeros up to a multiple.
     Padding(Number),

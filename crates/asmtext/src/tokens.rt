@@ -13,8 +13,7 @@ pub enum Symbol {
     Quoted(Vec<u8>),
 }
 
-/// Where the reader stands: outside strings, in one, behind a backslash there, in the comment, or
-/// past a wrong escape.
+/// Where the reader is: outside strings, in one, after a backslash there, in the comment, or past a wrong escape.
 #[derive(Clone, Copy)]
 enum Mode {
     Outside,

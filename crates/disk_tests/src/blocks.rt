@@ -57,7 +57,7 @@ fn use_all(disk: &mut Cache<FailAt<MemDisk>>, geometry: Geometry) -> Result<Take
     Ok((number, [first, second, third]))
 }
 
-// What one call of each gives on a small disk of such bytes, and whether an access failed, after so many good ones.
+// What one call of each returns on a small disk of this byte, and whether an access failed, after `good` good ones.
 fn use_small(
     rt: &(impl Abort + AllocGlobal),
     byte: u8,

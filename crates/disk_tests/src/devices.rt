@@ -6,13 +6,13 @@ use blockdev::{BlockDev, FailAt, MemDisk};
 use std::num::NonZeroU64;
 use std::process::Abort;
 
-/// A disk of so many zeros.
+/// A disk of `count` zeros.
 pub fn zeros(rt: &(impl Abort + AllocGlobal), count: usize) -> MemDisk {
     let bytes = vec![in rt.alloc(); 0; count].expect(rt, "memory");
     MemDisk::new(bytes).expect(rt, "whole blocks")
 }
 
-/// A disk of which one access fails, after so many good ones.
+/// A disk of which one access fails, after `good` good ones.
 pub fn fail_after(disk: MemDisk, good: u64) -> FailAt<MemDisk>
     ensures { result.device ≡ disk }
 {

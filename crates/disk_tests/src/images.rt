@@ -12,9 +12,9 @@ pub type Change = (usize, u8);
 /// The first byte of the root's inode.
 pub const ROOT: usize = 2048 + 64;
 
-// An image of 32 blocks and 16 inodes, in which the root has its two first places in block 5: the super block's
-// numbers, the root's inode, its places, and the bitmap; the other bytes are 0. The first byte of its magic number
-// tells its format.
+// An image of 32 blocks and 16 inodes, in which the first two entries of the root are in block 5.
+// These are the super block's numbers, the root's inode, its entries, and the bitmap; the other bytes are 0.
+// The first byte of the magic number says which format it has.
 const SMALL: [Change; 19] = [
     (1025, 0x30),
     (1026, 0x20),
@@ -74,7 +74,7 @@ pub const ELEVEN_BLOCKS: [Change; 15] = [
     (4098, 0x01),
 ];
 
-// And one byte more, in block 18, whose number stands in the index block 17.
+// And one byte more, in block 18, whose number is in the index block 17.
 const TWELFTH: [Change; 4] = [
     (ROOT + 72, 1),
     (ROOT + 120, 17),
@@ -85,7 +85,7 @@ const TWELFTH: [Change; 4] = [
 /// Or a twelfth block, 17, which an inode of the small format names directly too.
 pub const OLD_TWELFTH: [Change; 3] = [(ROOT + 73, 0x30), (ROOT + 120, 17), (4098, 0x03)];
 
-// And one byte more, in block 19, whose number stands in the index block 18.
+// And one byte more, in block 19, whose number is in the index block 18.
 const OLD_THIRTEENTH: [Change; 5] = [
     (ROOT + 72, 1),
     (ROOT + 73, 0x30),
@@ -94,7 +94,7 @@ const OLD_THIRTEENTH: [Change; 5] = [
     (4098, 0x0f),
 ];
 
-// A directory, inode 2, that the root names, with its two first places in block 6.
+// A directory, inode 2, that the root names, with its first two entries in block 6.
 const DIRECTORY: [Change; 14] = [
     (ROOT + 6, 2),
     (ROOT + 8, 48),
@@ -163,17 +163,17 @@ fn disk_of(rt: &(impl Abort + AllocGlobal), magic: u8, lists: &[&[Change]]) -> M
     MemDisk::new(bytes_of(rt, magic, lists)).expect(rt, "whole blocks")
 }
 
-// What is told of it.
+// What a check of it returns.
 fn told_of(rt: &(impl Abort + AllocGlobal), lists: &[&[Change]]) -> Result<Summary, ImageFault> {
     check(rt.alloc(), &mut disk_of(rt, 0x41, lists))
 }
 
-// What is told of the same image in the small format.
+// What a check of the same image in the small format returns.
 fn told_small(rt: &(impl Abort + AllocGlobal), lists: &[&[Change]]) -> Result<Summary, ImageFault> {
     check1(rt.alloc(), &mut disk_of(rt, 0x40, lists))
 }
 
-// What is told of it where memory is refused past so many bytes: where it stands, or in a copy.
+// What a check returns where memory is refused after `size` bytes: of the disk's own bytes, or of a copy.
 fn told_within(
     rt: &(impl Abort + AllocGlobal),
     lists: &[&[Change]],
@@ -188,11 +188,11 @@ fn told_within(
     check(&heap, &mut disk)
 }
 
-// Changes that are made one list after the other, and what is told of the image then: how many inodes and blocks are in
-// use, or what is wrong.
+// Changes that are made one list after the other, and what a check of the image returns then.
+// That is how many inodes and blocks are in use, or what is wrong.
 struct Case {
     name: &'static str,
-    /// Whether this is told where the image is to have the large format, and the small one.
+    /// Whether this is returned where the image is to have the large format, and the small one.
     large: bool,
     small: bool,
     lists: &'static [&'static [Change]],
@@ -570,7 +570,7 @@ fn in_use(told: Result<Summary, ImageFault>) -> Result<(usize, usize), ImageFaul
     Ok((summary.inodes, summary.blocks))
 }
 
-// Whether this is told of the image in each format that it is to have.
+// Whether a check of the image in each format that it is to have returns this.
 fn is_told(rt: &(impl Abort + AllocGlobal), case: &Case) -> bool {
     (!case.large || in_use(told_of(rt, case.lists)) == case.told)
         && (!case.small || in_use(told_small(rt, case.lists)) == case.told)
@@ -621,7 +621,7 @@ fn reads_what_is_not_lent(rt: HostRuntime) {
     }
 }
 
-// However much memory there is, what is told of the image is that it doesn't suffice, or the same as with enough of it.
+// However much memory there is, a check returns that it doesn't suffice, or the same as with enough of it.
 // Each request is refused at some of the sizes.
 fn expect_refusals(rt: &(impl Abort + AllocGlobal), lists: &[&[Change]], is_copied: bool) {
     let told = told_of(rt, lists);

@@ -5,7 +5,7 @@ use inode::InodeFault;
 use layout::Geometry;
 use std::process::Abort;
 
-// Each step gives what its row says, on a disk of so many blocks and 16 inodes.
+// Each step gives what its row says, on a disk of `size` blocks and 16 inodes.
 fn expect(rt: &(impl Abort + AllocGlobal), name: &str, size: usize, steps: &[Step]) {
     match first_wrong(rt.alloc(), Geometry { size, inodes: 16 }, u64::MAX, steps) {
         Ok(None) => {}
@@ -21,7 +21,7 @@ struct Case {
 }
 
 static CASES: [Case; 8] = [
-    // bytes stand behind a block's end, and a file without bytes keeps its names
+    // bytes are written across the end of a block, and a file without bytes keeps its names
     Case {
         name: "what was written is read",
         steps: &[
@@ -115,8 +115,8 @@ fn files_are_written_and_read(rt: HostRuntime) {
     }
 }
 
-// A disk of so many blocks, the bytes of a file on it, how many blocks are free, one fewer than a byte behind them
-// needs, and how many all but the last are of another file, which has the rest.
+// A disk's blocks, the bytes of a file on it, how many blocks are free, and how many another file has.
+// One fewer is free than one more byte of the file needs. The other file has the rest; its last block isn't counted.
 type Filled = (usize, usize, u8, u8);
 
 // The twelfth block of a file needs the single index block too, the 268th the double one and its first leaf, and each

@@ -14,12 +14,12 @@ const SIZE: u32 = 300;
 
 const BYTES: usize = 273_409;
 
-// Where the numbers of the index blocks stand in the file's inode.
+// Where the numbers of the index blocks are in the file's inode.
 const SINGLE: usize = 2048 + 2 * 64 + 56;
 
 const DOUBLE: usize = SINGLE + 4;
 
-// The number that stands here.
+// The number at this offset.
 fn number_at(image: &[u8], at: usize) -> usize
     ensures { result < 4294967296 }
 {
@@ -49,7 +49,7 @@ fn block_of(image: &[u8], index: Index) -> usize
     }
 }
 
-// What is told of an image.
+// What a check of an image returns.
 fn told(rt: &(impl Abort + AllocGlobal), image: Vec<u8>) -> Result<Summary, ImageFault> {
     let mut disk = MemDisk::new(image).expect(rt, "whole blocks");
     check(rt.alloc(), &mut disk)
@@ -59,13 +59,13 @@ fn told(rt: &(impl Abort + AllocGlobal), image: Vec<u8>) -> Result<Summary, Imag
 #[derive(Clone, Copy)]
 enum Fault {
     Nothing,
-    /// A number into a place of an index block.
+    /// A number is put into an entry of an index block.
     Number(Index, u8, [u8; 2]),
     /// An index block is not marked.
     Unmarked(Index),
 }
 
-// What is put into the image, and what is told of it then.
+// What is put into the image, and what a check returns then.
 struct Case {
     name: &'static str,
     fault: Fault,
@@ -163,7 +163,7 @@ static CASES: [Case; 17] = [
     },
 ];
 
-// Puts a number into a place of an index block.
+// Puts a number into an entry of an index block.
 fn put(image: &mut Vec<u8>, index: Index, place: u8, number: [u8; 2]) {
     let at = 1024 * block_of(image, index) + 4 * place as usize;
     if let Some(byte) = image.get_mut(at) {

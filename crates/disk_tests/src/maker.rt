@@ -14,7 +14,7 @@ pub fn small(rt: &(impl Abort + AllocGlobal)) -> Vec<u8> {
     make(rt.alloc(), &Manifest { entries }, 32, 16).expect(rt, "an image")
 }
 
-/// An image of so many blocks and 16 inodes with a file, inode 2, of so many zeros.
+/// An image of `blocks` blocks and 16 inodes with a file, inode 2, of `size` zeros.
 pub fn with_file(rt: &(impl Abort + AllocGlobal), blocks: u32, size: usize) -> Vec<u8> {
     let zeros = vec![in rt.alloc(); 0; size].expect(rt, "memory");
     let mut entries = Vec::new(rt.alloc());
@@ -28,7 +28,7 @@ fn add(rt: &(impl Abort + AllocGlobal), entries: &mut Vec<Entry>, path: &[u8], t
     entries.push(Entry { path, thing }).expect(rt, "memory");
 }
 
-// Whether these bytes stand from a place on.
+// Whether an image has these bytes from an offset on.
 fn has_bytes(image: &[u8], at: usize, bytes: &[u8]) -> bool {
     match image.get(at..) {
         Some(rest) => rest.starts_with(bytes),
@@ -36,9 +36,9 @@ fn has_bytes(image: &[u8], at: usize, bytes: &[u8]) -> bool {
     }
 }
 
-// Bytes of the small image, and where they stand.
+// Bytes of the small image, each with its offset.
 const PARTS: [(usize, &[u8]); 5] = [
-    // the root has two links and four places, in the first data block
+    // the root has two links and four entries, in the first data block
     (2112, b"\x01\0\0\0\0\0\x02\0\x40\0\0\0\x05\0"),
     (5152, b"\x02\0bin\0"),
     (5168, b"\x04\0console\0"),
@@ -56,7 +56,7 @@ fn makes_a_small_image(rt: HostRuntime) {
     }
 }
 
-// What is wrong with a manifest of an empty file and one of so many zeros.
+// What is wrong with a manifest of an empty file and one of `size` zeros.
 fn fault_of_files(
     rt: &(impl Abort + AllocGlobal),
     first: &[u8],
@@ -153,7 +153,7 @@ fn tells_each_fault(rt: HostRuntime) {
     }
 }
 
-// What is wrong with a manifest of directories of these names, in so many blocks.
+// What is wrong with a manifest of directories of these names, in `blocks` blocks.
 fn fault_of_directories(
     rt: &(impl Abort + AllocGlobal),
     names: &[u8],

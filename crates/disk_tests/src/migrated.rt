@@ -42,7 +42,7 @@ const THIRD: [Change; 9] = [
     (4099, 0xff),
 ];
 
-// Changes of the small image, one list after the other, and what is told of what it becomes.
+// Changes of the small image, one list after the other, and what a check of the migrated image returns.
 type Told = (&'static [&'static [Change]], Result<Summary, MigrateFault>);
 
 // Each file of 12 blocks has an index block then.
@@ -82,7 +82,7 @@ const ROWS: [Told; 6] = [
     ),
 ];
 
-// What is told of what becomes of the small image with these changes.
+// What a check returns of the small image with these changes once it is migrated.
 fn migrated(rt: &(impl Abort + AllocGlobal), lists: &[&[Change]]) -> Result<Summary, MigrateFault> {
     let old = bytes_of(rt, 0x40, lists);
     let new = migrate(rt.alloc(), &old)?;

@@ -11,7 +11,7 @@ use mount::{mount, mount_flat};
 use std::process::Abort;
 use tree::{Tree, TreeFault};
 
-// What is wrong with the small image where an access fails after so many good ones.
+// What is wrong with the small image where an access fails after `good` good ones.
 fn fault_after(rt: &(impl Abort + AllocGlobal), good: u64) -> Option<ImageFault> {
     let disk = MemDisk::new(small(rt)).expect(rt, "whole blocks");
     mount(rt.alloc(), fail_after(disk, good)).err()
@@ -24,7 +24,7 @@ fn mounts_a_small_image(rt: HostRuntime) {
     assert!(rt; (early, late) == (Some(ImageFault::Device), None));
 }
 
-// What is told of a directory with ".", ".." and "console".
+// The stat of a directory with ".", ".." and "console".
 const ROOT: InodeStat = InodeStat {
     kind: 1,
     major: 0,
@@ -32,7 +32,7 @@ const ROOT: InodeStat = InodeStat {
     size: 48,
 };
 
-// What is told of the console.
+// The stat of the console.
 const CONSOLE: InodeStat = InodeStat {
     kind: 3,
     major: 1,
@@ -51,7 +51,7 @@ fn mounts_the_console(rt: HostRuntime) {
 enum Asked {
     /// Any number.
     Look(usize, Option<InodeStat>),
-    /// From a place of any node on these bytes are read, where seven are asked for.
+    /// These bytes are read from an offset of any node on, where seven are asked for.
     Read(usize, usize, &'static [u8]),
     /// A name is taken away.
     Unlink(&'static [u8], Result<(), TreeFault>),

@@ -50,7 +50,7 @@ fn is_lost<T>(told: &Result<T, TreeFault>) -> bool
     }
 }
 
-// The files of the small image. One access fails, after so many good ones.
+// The files of the small image, on a disk of which one access fails, after `good` good ones.
 fn used(rt: &(impl Abort + AllocGlobal), good: u64) -> Used
     ensures up { result.failed ≡ false }
     ensures rules { KeepsTree result.files }
@@ -59,7 +59,7 @@ fn used(rt: &(impl Abort + AllocGlobal), good: u64) -> Used
     mount(rt.alloc(), fail_after(disk, good)).expect(rt, "files")
 }
 
-// Takes a step, and tells whether it gives what its row says.
+// Takes a step, and returns whether it gives what its row says.
 fn walk(files: &mut Used, step: Step) -> Result<bool, TreeFault>
     requires up { files.old.failed ≡ false }
     requires rules { KeepsTree files.old.files }
@@ -144,8 +144,8 @@ fn unlink(files: &mut Used, path: &[u8], want: Result<(), TreeFault>) -> Result<
     Ok(told == want)
 }
 
-// The first step that gives anything else than its row says, on the small image. One access fails, after so many good
-// ones.
+// The first step that gives anything else than its row says, on the small image.
+// One access fails, after `good` good ones.
 fn first_wrong(
     rt: &(impl Abort + AllocGlobal),
     good: u64,

@@ -40,7 +40,7 @@ const SMALL: (u32, Format) = (0x1020_3040, Format::Small);
 
 const LARGE: (u32, Format) = (0x1020_3041, CURRENT);
 
-// A size, a count of inodes, where the bitmap starts, the data blocks, and what is told of them in a format.
+// A size, a count of inodes, where the bitmap starts, the data blocks, and whether they fit a format.
 type Numbers = ((u32, Format), u32, u32, u32, u32, Result<(), LayoutFault>);
 
 const FITS: [Numbers; 9] = [

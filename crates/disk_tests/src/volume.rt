@@ -22,7 +22,7 @@ pub const SMALL: Geometry = Geometry {
     inodes: 16,
 };
 
-/// A disk of such bytes. One access fails, after so many good ones.
+/// A disk of this byte, of which one access fails, after `good` good ones.
 pub fn disk_of(
     alloc: Global,
     geometry: Geometry,
@@ -68,11 +68,11 @@ fn is_possible(geometry: Geometry) -> bool
 pub enum Step {
     /// A new file gets this number; none is free where there is no number here.
     Create(Option<usize>),
-    /// From a place on so many bytes are written, which are all alike: this comes of it.
+    /// That many equal bytes are written from an offset on: this comes of it.
     Fill(usize, usize, usize, u8, Result<(), InodeFault>),
-    /// From a place on these bytes are written.
+    /// These bytes are written from an offset on.
     Write(usize, usize, [u8; 5]),
-    /// From a place on so many bytes are read, into nine bytes of which each was 1.
+    /// That many bytes are read from an offset on, into nine bytes of which each was 1.
     Read(usize, usize, usize, [u8; 9]),
     /// The file loses all its bytes.
     Empty(usize),
@@ -80,8 +80,8 @@ pub enum Step {
     Link(usize, u16, (u16, u32)),
 }
 
-/// Takes the steps on a new disk with files, and tells the first that gives anything else than its row says. One access
-/// of the disk fails, after so many good ones.
+/// Takes the steps on a new disk with files, and returns the first that gives anything else than its row says.
+/// One access of the disk fails, after `good` good ones.
 pub fn first_wrong(
     alloc: Global,
     geometry: Geometry,
@@ -104,7 +104,7 @@ pub fn first_wrong(
 // A disk in memory with files, of which an access may fail.
 type Files = Volume<FailAt<MemDisk>>;
 
-// Takes a step, and tells whether it gives what its row says.
+// Takes a step, and returns whether it gives what its row says.
 fn walk(volume: &mut Files, alloc: Global, step: Step) -> Result<bool, InodeFault>
     requires { volume.old.failed ≡ false }
     ensures { OnOk result (volume.new.failed ≡ false) }
@@ -140,7 +140,7 @@ fn is_lost(told: &Result<(), InodeFault>) -> bool
     }
 }
 
-// So many bytes are written, which are all alike.
+// Writes `count` equal bytes, and returns whether that gives what is wanted.
 fn fill(
     volume: &mut Files,
     alloc: Global,
@@ -159,7 +159,7 @@ fn fill(
     }
 }
 
-// The bytes are written, or this tells why they aren't.
+// Writes the bytes, and returns whether that gives what is wanted.
 fn write(
     volume: &mut Files,
     number: usize,
@@ -180,7 +180,7 @@ fn write(
     Ok(told == want)
 }
 
-// So many bytes are read into nine that were 1, which are these then.
+// Reads into nine bytes that were 1, and returns whether `count` were read and the nine are these.
 fn read(
     volume: &mut Files,
     number: usize,

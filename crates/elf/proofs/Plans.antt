@@ -32,7 +32,7 @@ number_at-part k i at count file h =
 
 -- ---- a program header
 
--- its 56 bytes tell the segment
+-- its 56 bytes describe the segment
 pub segment_at-part : (file : List ℕ) (at : ℕ) → segment_at (take 56 (drop at file)) 0 ≡ segment_at file at
 unfolding segment_at
 segment_at-part file at =
@@ -79,7 +79,7 @@ module _ (file : List ℕ) (l : Loaded) (g : Segment) where
       (nat_eq (g.address % 4096) 0) _ (nat_lt g.address l.end) (has_bytes file g) whole-pages
   by-kind false = refl
 
--- one program header is loaded, skipped or refused as `segment` answers
+-- one program header is loaded, skipped or refused as `segment` says
 pub loads-segment : (file : List ℕ) (l : Loaded) (at : ℕ)
     → load_segment file l (segment_at file at)
     ≡ loaded_by file l (segment_at file at) (segment_of (take 56 (drop at file)) l.end (length file))
@@ -131,7 +131,7 @@ module _ (file : List ℕ) where
   by-tests true true true h = refl
   by-tests true true false h = h refl
 
-  -- loading begins, or is refused, as `header` answers
+  -- loading begins, or is refused, as `header` says
   pub loads-header : loaded_of file ≡ headers_by file (header_of (take 64 file) (length file))
   loads-header =
       rw (header_in-part, part 4 0 (omega arith), part 8 32 (omega arith), part 2 56 (omega arith))
@@ -139,7 +139,7 @@ module _ (file : List ℕ) where
       (is_within (number_at 8 32 file) (56 * number_at 2 56 file) (length file))
       (past-end (number_at 2 56 file) file (number_at 8 32 file)))
 
--- ---- numbers that are read from bytes are those that stand there
+-- ---- numbers that are read from bytes are those that the bytes have
 
 little_from-nil : (i n : ℕ) → little_from i n [] ≡ 0
 little_from-nil i zero = refl
@@ -154,7 +154,7 @@ pub number-first : (n : ℕ) (bytes : List ℕ) → little_number n bytes ≡ nu
 number-first n bytes = let count : n ≡ 0 + n - 0 = omega arith in number-take n bytes
     ∙ ap (λ k. number (take k bytes)) count
 
--- of the m bytes, those from a place on
+-- of the m bytes, those from an offset on
 pub number-from : (n at m : ℕ) (bytes : List ℕ) → length bytes ≤ m
     → little_number n (take (m - at) (drop at bytes)) ≡ number_at n at bytes
 number-from n at m bytes h =
@@ -181,7 +181,7 @@ unfolding segment_at
 segment-read bytes flags offset address file_size size f o a n s =
     rw (f, o, a, n, s, div-one (number_at 4 4 bytes)) refl
 
--- ---- the answers of `segment`
+-- ---- what `segment` returns
 
 module _ (bytes : List ℕ) (end len kind : ℕ) (told : kind ≡ number_at 4 0 bytes) where
   pub segment-other : kind ≢ 1 → Ok None ≡ segment_of bytes end len

@@ -9,7 +9,7 @@ use Rattle.unixmodel.specs.Numbers.{has_bit, number_at, round_down}
 use Rattle.unixmodel.specs.Plan as plan
 use Rattle.unixmodel.specs.Plan.{segment_at}
 
--- a file of len bytes has so many at a place
+-- a file of len bytes has `size` bytes at an offset
 abbrev pub is_within : ℕ → ℕ → ℕ → Bool
 is_within at size len = size == 0 || nat_le (at + size) len
 

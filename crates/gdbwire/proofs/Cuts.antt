@@ -1,4 +1,4 @@
--- Where a byte stands in a text.
+-- Where a byte is in a text.
 use Rattle.std.proofs.Common.{◌≡◌, ◌+◌, ◌<◌, ◌≤◌, ◌==◌, ℕ, [], Bool, List, None, Some, ap, cond, drop, drop-cons, false}
 use Rattle.std.proofs.Common.{get_or, length, refl, suc, take, true}
 use native.Mathlib.Omega.{arith}
@@ -17,7 +17,7 @@ next : (at : ℕ) (text : List ℕ) (i : ℕ) → i < length text
     ≡ cond (other at (get_or text i 0)) (1 + prefix_len (other at) (drop (suc i) text)) 0
 next at text i within = ap (prefix_len (other at)) (drop-cons text i 0 within)
 
--- the byte doesn't stand there
+-- the byte is not at i
 pub onward : (at : ℕ) (text : List ℕ) (i : ℕ) → i < length text → (get_or text i 0 == at) ≡ false
     → prefix_len (other at) (drop i text) ≡ 1 + prefix_len (other at) (drop (i + 1) text)
 onward at text i within differs =
@@ -35,7 +35,7 @@ found at text i within same so_far =
     let less : nat_lt i (length text) ≡ true = lt-ltb i (length text) within in
     rw (place, less) refl
 
--- it stands nowhere
+-- it is nowhere in the text
 pub missing : (at : ℕ) (text : List ℕ) (i : ℕ) → length text ≤ i
     → prefix_len (other at) text ≡ i + prefix_len (other at) (drop i text) → cut at text ≡ None
 unfolding cut

@@ -56,7 +56,7 @@ unfolding hex_up_to
 long zero n some least = absurd (some refl)
 long (suc most) n some least = let one : suc most - 1 ≡ most = omega arith in rw (le-ltb n 16 least, one) refl
 
--- what stands there where memory doesn't fail
+-- what was put where memory doesn't fail
 pub when-ok : {A E : Type 0} (r : Result A E) {new : List ℕ} (more old : List ℕ)
     → new ≡ (if is_ok r then more else old) → OnOk r (new ≡ more)
 when-ok (Ok a) more old is = is

@@ -149,7 +149,7 @@ bytes-read (b ∷ bs) are =
     (ap (λ x. Some x) whole_byte) in
     rw (both, bytes-read bs (λ i. are (suc i))) refl
 
--- ---- where a byte stands not
+-- ---- texts that lack a byte
 
 abbrev Lacks : ℕ → List ℕ → Type 0
 Lacks at [] = ⊤

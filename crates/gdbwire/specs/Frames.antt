@@ -7,7 +7,7 @@ use Rattle.gdbwire.specs.declared.reader.Heard.TheVariants.{Packet, TooLong, Dam
 use Rattle.gdbwire.specs.declared.reader.Stage.{Stage}
 use Rattle.gdbwire.specs.declared.reader.Stage.TheVariants.{Between, Body, Escaped, Sum, LastDigit}
 
--- whether a byte stands in no body as it is: # $ * }
+-- whether a byte must be escaped in a body: # $ * }
 unfoldable pub is_reserved : ℕ → Bool
 is_reserved b = b == 35 || b == 36 || b == 42 || b == 125
 

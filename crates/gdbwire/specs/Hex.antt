@@ -35,7 +35,7 @@ unfoldable pub number_of : List ℕ → Option ℕ
 number_of [] = None
 number_of codes = number_from (Some 0) codes
 
--- the digits of a number, at most so many; the first is 0 for 0 alone
+-- the digits of a number, at most n of them; the first is 0 for 0 alone
 unfoldable pub hex_up_to : ℕ → ℕ → List ℕ
 hex_up_to zero n = []
 hex_up_to (suc most) n = (if nat_lt n 16 then [] else hex_up_to most (n / 16)) ++ hex_digit (n % 16) ∷ []

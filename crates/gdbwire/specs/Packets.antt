@@ -1,4 +1,4 @@
--- Packets: a word, and what it is about. Of text the place in the body is told at which it begins.
+-- Packets: a word, and what it is about. Text is named by the offset in the body at which it begins.
 use Rattle.std.specs.Prelude.{◌==◌, ◌≡◌, ◌<◌, ◌++◌, ◌∷◌, ◌+◌, ◌^◌, ℕ, ⊤, List, [], None, Option, Some, bytes_eq, codes}
 use Rattle.std.specs.Prelude.{drop, if◌then◌else◌, length, map, nat_eq, nat_lt, not, option_and_then, option_map, take}
 use Rattle.std.specs.List.{prefix_len, starts_with}
@@ -22,7 +22,7 @@ infixl 10 ◌>>=◌
 abbrev pub ◌>>=◌ : {A B : Type 0} → Option A → (A → Option B) → Option B
 o >>= f = option_and_then f o
 
--- what stands before the first of a byte, and after it
+-- what comes before byte n, and after it
 abbrev pub cut_from : List ℕ → ℕ → Option (List ℕ × List ℕ)
 cut_from text n = if nat_lt n (length text) then Some (take n text, drop (n + 1) text) else None
 
@@ -58,7 +58,7 @@ part_of text = do
 
 -- ---- packets
 
--- the first of so many heads whose word a body begins with, and what follows the word
+-- the first of these heads whose word a body begins with, and what follows the word
 abbrev pub head_among : List (List ℕ × Head) → List ℕ → Option (Head × List ℕ)
 head_among [] body = None
 head_among (row ∷ rows) body =
@@ -261,7 +261,7 @@ head_of (packet.Clear kind part n) = head.Clear kind
 abbrev pub packet_sent : Packet → List ℕ → List ℕ
 packet_sent p text = word_of (head_of p) ++ behind_word p text
 
--- a packet's numbers have 64 bits, and its text has as many bytes as it tells
+-- a packet's numbers have 64 bits, and its text has as many bytes as it says
 abbrev pub IsId : Id → Type 0
 IsId All = ⊤
 IsId (One n) = n < 2 ^ 64

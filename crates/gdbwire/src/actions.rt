@@ -41,7 +41,7 @@ fn going_in(text: &[u8]) -> Option<Going>
     }
 }
 
-/// One action of the text of a `Resume`, where `;` stands between actions.
+/// One action of the text of a `Resume`, whose actions are separated by `;`.
 #[tactic(auto, unfolding(crate::specs::Actions::action_of))]
 pub fn action_in(text: &[u8]) -> Option<Action>
     ensures { result ≡ action_of text.now }

@@ -5,13 +5,13 @@ ghost use Rattle.gdbwire.specs.Frames.{checksum, framed, is_reserved, sent, sent
 use crate::hex::push_byte;
 use std::alloc::{AllocError, AllocFailed};
 
-/// What stands before a reserved byte, which is sent xor `FLIP`.
+/// The byte before a reserved one, which is sent xor `FLIP`.
 pub(crate) const ESCAPE: u8 = b'}';
 
 /// What a reserved byte is xored with.
 pub(crate) const FLIP: u8 = 0x20;
 
-// Whether a byte stands in no body as it is.
+// Whether a byte must be escaped in a body.
 #[tactic(auto, unfolding(crate::specs::Frames::is_reserved))]
 fn is_reserved(byte: u8) -> bool
     ensures { result ≡ is_reserved byte }

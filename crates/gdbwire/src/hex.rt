@@ -77,7 +77,7 @@ pub fn push_bytes(bytes: &[u8], out: &mut Vec<u8>) -> Result<(), AllocError>
     Ok(())
 }
 
-// Puts the digits of a number at the end, at most so many, the highest first.
+// Appends the digits of a number, at most `most` of them, the highest first.
 fn push_up_to(most: u32, number: u64, out: &mut Vec<u8>) -> Result<(), AllocError>
     ensures { OnOk result (out.new.items ≡ out.old.items ++ hex_up_to most number) }
 {

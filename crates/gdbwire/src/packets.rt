@@ -22,7 +22,7 @@ pub struct Thread {
     pub thread: Id,
 }
 
-/// So many bytes, from a place or an address on.
+/// `count` bytes, from an offset or an address on.
 #[derive(Clone, Copy, PartialEq, Eq)]
 pub struct Part {
     pub from: u64,
@@ -40,7 +40,7 @@ pub enum Word {
     LastStop,
     /// `qfThreadInfo`: the threads.
     FirstThreads,
-    /// `qsThreadInfo`: the threads that were not told yet.
+    /// `qsThreadInfo`: the threads that were not listed yet.
     MoreThreads,
     /// `qC`: the thread that runs.
     CurrentThread,
@@ -84,7 +84,7 @@ pub enum Numbered {
 /// Words that a thread follows.
 #[derive(Clone, Copy, PartialEq, Eq)]
 pub enum Threaded {
-    /// `qThreadExtraInfo,`: what is told of a thread.
+    /// `qThreadExtraInfo,`: a thread's description.
     Words,
     /// `T`: whether a thread is there.
     IsAlive,
@@ -129,7 +129,7 @@ pub enum Texted {
 /// At what a program stops.
 #[derive(Clone, Copy, PartialEq, Eq)]
 pub enum Point {
-    /// An instruction that a break stands at.
+    /// An instruction at which there is a break.
     Break,
     /// An instruction that the hart looks out for.
     HardwareBreak,
@@ -155,7 +155,7 @@ pub(crate) enum Head {
     Clear(Point),
 }
 
-/// What gdb asks. Of text it tells how many bytes it has: it is the end of the body.
+/// What gdb asks. Text is the end of the body, so that only its length is given here.
 #[derive(Clone, Copy, PartialEq, Eq)]
 pub enum Packet {
     /// A word alone.
@@ -233,7 +233,7 @@ const HEADS: [(&[u8], Head); 48] = [
     (b"z4,", Head::Clear(Point::Access)),
 ];
 
-/// What stands before the first of a byte, and after it; `None` where it is not there.
+/// What comes before the first byte `at`, and after it; `None` where there is no such byte.
 pub fn cut(at: u8, text: &[u8]) -> Option<(&[u8], &[u8])>
     ensures { option_map (λ two. (two.0.now, two.1.now)) result ≡ cut at text.now }
 {
@@ -280,7 +280,7 @@ pub fn thread_in(text: &[u8]) -> Option<Thread>
     Some(Thread { process, thread })
 }
 
-// So many bytes, from a place on.
+// `count` bytes, from an offset on.
 #[tactic(auto, unfolding(crate::specs::Packets::part_of))]
 fn part_in(text: &[u8]) -> Option<Part>
     ensures { result ≡ part_of text.now }

@@ -9,7 +9,7 @@ use crate::hex::digit_value;
 use std::alloc::{AllocError, Global};
 use std::marker::Model;
 
-/// The longest body that is read, in bytes: the number that a server tells as `PacketSize`, 0x4000.
+/// The longest body that is read, in bytes: the number that a server reports as `PacketSize`, 0x4000.
 pub const MOST: usize = 16384;
 
 /// The byte by which the other end wants what runs to stop: ^C.
@@ -22,7 +22,7 @@ pub(crate) enum Stage {
     Between,
     // In a body.
     Body,
-    // In a body, after the byte that stands before a reserved one.
+    // In a body, after the byte that escapes a reserved one.
     Escaped,
     // After a body.
     Sum,
@@ -176,7 +176,7 @@ impl Reader {
         }
     }
 
-    // After the byte that stands before a reserved one.
+    // After the byte that escapes a reserved one.
     #[tactic(auto, unfolding(crate::specs::Frames::inside))]
     fn hear_escaped(&mut self, byte: u8)
         ensures { self.new ≡ (hears_at AfterEscape self.old byte).0 }

@@ -28,7 +28,7 @@ struct Row {
 enum Way {
     // one event after the other
     Events,
-    // so many at once
+    // in pieces of that many
     Pieces(u32),
 }
 
@@ -157,8 +157,8 @@ place:  addi a0, zero, 1
 word:   addi a0, zero, 6
 ";
 
-// An instruction is written into each of 65 pages, which adds the page's number, and they run in turn, twice. Decoded
-// words have places for 64 frames, so two of the pages share theirs.
+// An instruction is written into each of 65 pages, which adds the page's number, and they run in turn, twice.
+// Decoded words have slots for 64 frames, so two of the pages share theirs.
 const PAGES: &str = "
         la s0, place
         lw s1, 0(s0)
@@ -226,7 +226,7 @@ static ROWS: [Row; 7] = [
     },
 ];
 
-// Gives a machine so many steps.
+// Gives a machine `steps` steps.
 fn go(machine: &mut AnyMachine<'_>, steps: u32, way: Way) -> Result<(), Halt> {
     match way {
         Way::Events => singly(machine, steps),
@@ -234,7 +234,7 @@ fn go(machine: &mut AnyMachine<'_>, steps: u32, way: Way) -> Result<(), Halt> {
     }
 }
 
-// Gives a machine so many steps, each as an event.
+// Gives a machine `steps` steps, each as an event.
 fn singly(machine: &mut AnyMachine<'_>, steps: u32) -> Result<(), Halt> {
     let mut out = Writer::new(sink());
     for _ in 0..steps {
@@ -243,7 +243,7 @@ fn singly(machine: &mut AnyMachine<'_>, steps: u32) -> Result<(), Halt> {
     Ok(())
 }
 
-// Gives a machine so many steps, in pieces of so many.
+// Gives a machine `steps` steps, in pieces of `size`.
 fn in_pieces(machine: &mut AnyMachine<'_>, steps: u32, size: u32) -> Result<(), Halt>
     requires { 0 < size }
 {
@@ -254,7 +254,7 @@ fn in_pieces(machine: &mut AnyMachine<'_>, steps: u32, size: u32) -> Result<(), 
     machine.steps(steps % size, &mut out)
 }
 
-// The digest of a machine after so many steps, and why it stops at the next one.
+// The digest of a machine after `steps` steps, and why it stops at the next one.
 fn shown(machine: &mut AnyMachine<'_>, steps: u32, way: Way) -> Option<(u64, Halt)> {
     go(machine, steps, way).ok()?;
     let digest = machine.digest().ok()?;

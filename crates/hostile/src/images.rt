@@ -1,5 +1,5 @@
-//! Images, and what is told of them: by the check, by a plain reading of the rules, and by a boot. And images of which
-//! parts name themselves.
+//! Images that are checked, read plainly by the rules, and booted: all three must agree.
+//! And images whose parts name themselves.
 use crate::rules::{LARGE, Rules, SMALL, judge};
 use crate::runs::{let_go, plain};
 use blockdev::MemDisk;
@@ -18,10 +18,10 @@ pub enum Format {
 /// Both.
 pub const FORMATS: [Format; 2] = [Format::Small, Format::Large];
 
-/// What is told of an image.
+/// What a check of an image returns.
 pub type Told = Result<Summary, ImageFault>;
 
-/// Bytes of an image, and the place of the first one.
+/// Bytes of an image, and the offset of the first one.
 pub type Change = (usize, &'static [u8]);
 
 impl Format {
@@ -47,7 +47,7 @@ pub fn disk_of(alloc: Global, image: &[u8]) -> Option<MemDisk> {
     MemDisk::new(bytes).ok()
 }
 
-// What the check tells of an image.
+// What the check of an image returns.
 fn told(alloc: Global, image: &[u8], format: Format) -> Option<Told> {
     let mut disk = disk_of(alloc, image)?;
     Some(match format {
@@ -68,7 +68,7 @@ fn refusal(alloc: Global, image: &[u8]) -> Option<BootFault> {
     }
 }
 
-// Whether a boot from an image without `/init` fails by what is told of it.
+// Whether a boot from an image without `/init` fails for the reason that the check returns.
 fn boots_not(alloc: Global, image: &[u8], told: Told) -> bool {
     let fault = match told {
         Ok(_) => BootFault::NoInit,
@@ -77,8 +77,8 @@ fn boots_not(alloc: Global, image: &[u8], told: Told) -> bool {
     refusal(alloc, image) == Some(fault)
 }
 
-/// What is told of an image that has no `/init`. `None`: the rules tell something else, or a boot answers by something
-/// else.
+/// What the check of an image without `/init` returns.
+/// `None`: the rules give something else, or a boot fails for another reason.
 pub fn judged(alloc: Global, image: &[u8], format: Format) -> Option<Told> {
     let told = told(alloc, image, format)?;
     if told != judge(alloc, image, format.rules()) {
@@ -118,7 +118,7 @@ const ROOT: usize = 2048 + 64;
 
 const THREE: usize = 2048 + 3 * 64;
 
-/// The root names a directory, inode 3, with its two first places in block 6.
+/// The root names a directory, inode 3, with its first two entries in block 6.
 pub const DIRECTORY: [Change; 8] = [
     (ROOT + 6, &[2, 0, 64]),
     (5168, b"\x03\0d"),
@@ -161,7 +161,7 @@ const NUMBERS: [u8; 41] = [
 
 const INDEX: usize = 18 * 1024;
 
-// What an image is changed to, and what is told of it then.
+// What an image is changed to, and what the check returns then.
 struct Row {
     formats: &'static [Format],
     first: &'static [Change],
@@ -234,7 +234,7 @@ const ROWS: [Row; 9] = [
             blocks: 15,
         }),
     },
-    // the block of the index names itself in the place of block 19, which is free then
+    // the index block names itself instead of block 19, which is free then
     Row {
         formats: &[Format::Small],
         first: &SMALL_FILE,
@@ -249,7 +249,7 @@ const ROWS: [Row; 9] = [
     },
 ];
 
-// What is told of the image of a row in a format.
+// What the check of a row's image returns in a format.
 fn told_of(alloc: Global, row: &Row, format: Format) -> Option<Told> {
     let mut image = changed(alloc, format, row.first)?;
     for change in row.second {
@@ -258,7 +258,7 @@ fn told_of(alloc: Global, row: &Row, format: Format) -> Option<Told> {
     judged(alloc, image.as_slice(), format)
 }
 
-// Whether what is told in each format is what the row says.
+// Whether the check returns what the row says in each format.
 fn is_right(alloc: Global, row: &Row) -> bool {
     for format in row.formats {
         if told_of(alloc, row, *format) != Some(row.told) {
@@ -268,7 +268,7 @@ fn is_right(alloc: Global, row: &Row) -> bool {
     true
 }
 
-/// The first image of which something else is told than its row says.
+/// The first row for whose image the check returns something else than the row says.
 pub fn wrong(alloc: Global) -> Option<u64> {
     for (place, row) in ROWS.iter().enumerate() {
         if !is_right(alloc, row) {

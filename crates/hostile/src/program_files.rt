@@ -27,8 +27,9 @@ const THREE_PAGES: u64 = 12288;
 
 const S2: usize = 18;
 
-// A file of a header and a program header: where the program headers are said to be and how many, and the sizes of the
-// segment in the file and in memory. It becomes a program of so many bytes, or is refused.
+// A file of a header and a program header.
+// It says where the program headers are and how many, and how long the segment is in the file and in memory.
+// It becomes a program of this many bytes, or is refused.
 struct Odd {
     at: u64,
     count: u64,
@@ -128,7 +129,7 @@ fn run_on(alloc: Global, machine: &mut AnyMachine<'static>) -> Result<(), Halt> 
     machine.run(&[Event::Step; 100], &mut out)
 }
 
-// Whether process 1 ends at address 0, in a program of so many bytes.
+// Whether process 1 ends at address 0, in a program of `size` bytes.
 fn ends_at_0(alloc: Global, machine: &mut AnyMachine<'static>, size: u64) -> bool {
     let done = run_on(alloc, machine);
     match machine.inspect(1) {
@@ -137,7 +138,7 @@ fn ends_at_0(alloc: Global, machine: &mut AnyMachine<'static>, size: u64) -> boo
     }
 }
 
-// Whether exec answers -1, takes no frame, and the program goes on.
+// Whether exec returns -1, takes no frame, and the program goes on.
 fn refuses(alloc: Global, machine: &mut AnyMachine<'static>) -> bool {
     let free = machine.free_frames();
     let done = run_on(alloc, machine);

@@ -8,14 +8,14 @@
 //! 6. No block is named twice.
 //! 7. The bitmap marks what comes before the data blocks and the blocks that are named, and no others.
 //! 8. Each inode has a size that its type can have.
-//! 9. Each place of a directory is free or has a name of its own and an inode in use; the first two are `.` and `..`; a
-//! directory but the    root is named once, and the root never.
+//! 9. Each entry of a directory is free or has a name of its own and an inode in use; the first two are `.` and `..`.
+//! A directory except the root is named once, and the root never.
 //! 10. Each inode has as many links as names; a directory one for itself and one for each directory in it.
 //! 11. A path reaches each inode in use.
 use image::{ImageFault, Summary};
 use std::alloc::{AllocError, Global};
 
-/// What tells a format of images from another.
+/// What distinguishes a format of images.
 pub struct Rules {
     // What its super block begins with.
     magic: u32,
@@ -51,13 +51,13 @@ const DIRECTORY: u16 = 1;
 
 const DEVICE: u16 = 3;
 
-// So many bytes from a place on, or none where there are fewer.
+// `count` bytes from offset `at` on, or none where there are fewer.
 fn part(bytes: &[u8], at: usize, count: usize) -> &[u8] {
     let rest = bytes.get(at..).unwrap_or(&[]);
     rest.get(..count).unwrap_or(&[])
 }
 
-// The number of two bytes from a place on.
+// The number of two bytes at an offset.
 fn half(bytes: &[u8], at: usize) -> u16 {
     match bytes.get(at..) {
         Some([low, high, ..]) => u16::from_le_bytes([*low, *high]),
@@ -65,7 +65,7 @@ fn half(bytes: &[u8], at: usize) -> u16 {
     }
 }
 
-// The number of four bytes from a place on.
+// The number of four bytes at an offset.
 fn word(bytes: &[u8], at: usize) -> u32 {
     match bytes.get(at..) {
         Some([first, second, third, last, ..]) => u32::from_le_bytes([
@@ -75,7 +75,7 @@ fn word(bytes: &[u8], at: usize) -> u32 {
     }
 }
 
-// Whether there are only zeros, as in a free place of a directory or behind a name.
+// Whether there are only zeros, as in a free entry of a directory or after a name.
 fn is_zero(bytes: &[u8]) -> bool {
     [0; 16].starts_with(bytes)
 }
@@ -90,12 +90,12 @@ fn name_length(name: &[u8]) -> usize {
     name.len()
 }
 
-// A place of a directory.
+// An entry of a directory.
 #[derive(Clone, Copy)]
 struct Place<'a> {
     // The number of the directory.
     holder: u32,
-    // How many places of it come before.
+    // How many entries of it come before.
     index: u32,
     // Its 16 bytes.
     bytes: &'a [u8],
@@ -134,7 +134,7 @@ impl Place<'_> {
             && !matches!(name, b"" | b"." | b"..")
     }
 
-    // Whether it names an inode: a place behind the first two that isn't free.
+    // Whether it names an inode: an entry after the first two that isn't free.
     fn is_naming(&self) -> bool {
         self.index >= 2 && !self.is_free()
     }
@@ -144,7 +144,7 @@ impl Place<'_> {
         self.is_naming() && self.number() == number
     }
 
-    // Whether another place of its directory has its name.
+    // Whether another entry of its directory has its name.
     fn is_twin(&self, other: &Place<'_>) -> bool {
         other.holder == self.holder
             && other.index != self.index
@@ -152,7 +152,7 @@ impl Place<'_> {
             && other.name() == self.name()
     }
 
-    // Whether no other place of its directory has its name.
+    // Whether no other entry of its directory has its name.
     fn is_alone(&self, places: &[Place<'_>]) -> bool {
         for other in places {
             if self.is_twin(other) {
@@ -168,7 +168,7 @@ impl Place<'_> {
 struct Picture<'a> {
     bytes: &'a [u8],
     rules: &'a Rules,
-    // The blocks, the places for inodes, and the first data block.
+    // The blocks, the inodes, and the first data block.
     size: u32,
     inodes: u32,
     data: u32,
@@ -280,7 +280,7 @@ impl<'a> Picture<'a> {
         }
     }
 
-    // Rule 5 of a row of numbers, of which so many are used: those are noted.
+    // Rule 5 of a row of numbers, of which the first `used` are in use: those are noted.
     fn note(&self, row: &[u8], used: usize, named: &mut Vec<u32>) -> Result<(), ImageFault> {
         for (place, bytes) in row.chunks_exact(4).enumerate() {
             let (number, is_used) = (word(bytes, 0), place < used);
@@ -294,7 +294,7 @@ impl<'a> Picture<'a> {
         Ok(())
     }
 
-    // Rule 5 of the block of a double index, for so many data blocks.
+    // Rule 5 of the block of a double index, for `blocks` data blocks.
     fn note_double(
         &self,
         double: &[u8],
@@ -378,7 +378,7 @@ impl<'a> Picture<'a> {
         word(self.block(leaf), 4 * (place % 256) as usize)
     }
 
-    // Lists the places of a directory.
+    // Lists the entries of a directory.
     fn list(&self, holder: u32, places: &mut Vec<Place<'a>>) -> Result<(), AllocError> {
         for index in 0..self.length(holder) / 16 {
             let block = self.block(self.data_block(holder, index / 64));
@@ -392,7 +392,7 @@ impl<'a> Picture<'a> {
         Ok(())
     }
 
-    // All places of all directories.
+    // All entries of all directories.
     fn places(&self, alloc: Global) -> Result<Vec<Place<'a>>, AllocError> {
         let mut places = Vec::new(alloc);
         for number in 1..self.inodes {
@@ -403,7 +403,7 @@ impl<'a> Picture<'a> {
         Ok(places)
     }
 
-    // Rule 9 of a place.
+    // Rule 9 of an entry.
     fn is_good(&self, place: &Place<'_>, places: &[Place<'_>]) -> bool {
         match place.index {
             0 => place.is(b".", place.holder),
@@ -413,7 +413,7 @@ impl<'a> Picture<'a> {
         }
     }
 
-    // Rule 9 of all places.
+    // Rule 9 of all entries.
     fn has_good_places(&self, places: &[Place<'_>]) -> bool {
         for place in places {
             if !self.is_good(place, places) {
@@ -458,7 +458,7 @@ impl<'a> Picture<'a> {
         true
     }
 
-    // Whether a place names a directory.
+    // Whether an entry names a directory.
     fn is_naming_directory(&self, place: &Place<'_>) -> bool {
         place.is_naming() && self.kind(place.number()) == DIRECTORY
     }
@@ -575,7 +575,7 @@ fn is_named_once(named: &[u32]) -> bool {
     true
 }
 
-// How many places name an inode.
+// How many entries name an inode.
 fn times(number: u32, places: &[Place<'_>]) -> usize {
     let mut count = 0_usize;
     for place in places {
@@ -609,7 +609,7 @@ fn is_reached(number: u32, reached: &[bool]) -> bool {
     reached.get(number as usize) == Some(&true)
 }
 
-// What a place of a directory names that is reached is reached too.
+// What an entry of a reached directory names is reached too.
 fn reach_on(places: &[Place<'_>], reached: &mut [bool]) {
     for place in places {
         if place.is_naming() && is_reached(place.holder, reached) {

@@ -41,7 +41,7 @@ pub fn wrong_piece(alloc: Global) -> Option<u64> {
     None
 }
 
-// An image in a format, and the places of the bytes whose bits are turned: from one on and below another.
+// An image in a format, and the bytes whose bits are turned: from offset `from` up to `to`.
 struct Part {
     format: Format,
     changes: &'static [Change],
@@ -49,8 +49,8 @@ struct Part {
     to: u16,
 }
 
-// The blocks 1 to 4 and the root's of the image of a machine without a disk; and the records and the places of one with
-// a directory, the records and the numbers of one with a file.
+// Blocks 1 to 4 and the root's of the image of a machine without a disk.
+// Then the inodes and the entries of one with a directory, and the inodes and the block numbers of one with a file.
 const PARTS: [Part; 8] = [
     Part {
         format: Format::Small,
@@ -109,7 +109,7 @@ fn turn(image: &mut [u8], bit: usize) {
     }
 }
 
-// The first bit of a part, of each so many, that changes what is told in another way than by the rules.
+// The first bit of a part, of one in `stride`, after whose turn the check and the rules differ.
 fn wrong_turn(alloc: Global, part: &Part, stride: usize) -> Option<u64>
     requires { 0 < stride }
 {
@@ -126,7 +126,7 @@ fn wrong_turn(alloc: Global, part: &Part, stride: usize) -> Option<u64>
     None
 }
 
-/// The first bit that changes what is told in another way than by the rules, of each so many.
+/// The first bit of any part, of one in `stride`, after whose turn the check and the rules differ.
 pub fn wrong_bit(alloc: Global, stride: usize) -> Option<u64> {
     for part in &PARTS {
         if let Some(bit) = wrong_turn(alloc, part, stride.max(1)) {

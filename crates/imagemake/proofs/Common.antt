@@ -1,4 +1,4 @@
--- The names that the lemmas of this crate import from elsewhere, passed on from one place. Declares nothing.
+-- The names that the lemmas of this crate import from other crates, passed on here. Declares nothing.
 pub use Rattle.std.proofs.Common.{◌%◌, ◌&&◌, ◌*◌, ◌+◌, ◌++◌, ◌-◌, ◌/◌, ◌<◌, ◌==◌, [], ◌^◌, add-one, All, ap, ap₂, arith}
 pub use Rattle.std.proofs.Common.{Bool, Bor, bytes_eq, cond, count_by, Decides, drop, eqb, Err, false, filter, flat_map}
 pub use Rattle.std.proofs.Common.{get_or, inl, inr, is_some, IsSome, IsTrue, length, List, map, nat_eq, nat_le, nat_lt}

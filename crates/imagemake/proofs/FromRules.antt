@@ -31,7 +31,7 @@ count_by-none p (x ∷ xs) h =
       count_by-none p xs (All-tail (λ y. p y ≡ false) x xs h),
     )
 
--- what is counted stands somewhere
+-- what is counted is at some index
 pub record IsAmong {X : Type 0} (p : X → Bool) (xs : List X) (d : X) : Type 0 where
   pub place : ℕ
   pub within : place < length xs
@@ -217,7 +217,7 @@ module _ {files : Files} (keeps : KeepsTree files) (linked : HasLinked files) wh
         (λ n h. climbs-below (suc (keeps.depth n)) n (omega arith) h);
   }
 
--- ---- how many steps lead to the root, of at most so many
+-- ---- how many steps lead to the root, at most k
 
 level : Files → ℕ → ℕ → ℕ
 level files zero n = 0

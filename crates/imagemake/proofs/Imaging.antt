@@ -94,7 +94,7 @@ module _ (g : Geometry) (blocks : List (List ℕ)) (sound : IsSound g blocks) wh
     | inr used ↦ inode_at g blocks legible n low high used
   ]
 
-  -- two places with one block are those of one slot
+  -- two indices with one block are those of one slot
   same-slot : (m n p q d e : ℕ) (i : IsInode blocks g.inodes m) (j : IsInode blocks g.inodes n)
       → p < length (blocks_in image m) → q < length (blocks_in image n)
       → get_or (blocks_in image m) p d ≡ get_or (blocks_in image n) q e
@@ -129,7 +129,7 @@ module _ (g : Geometry) (blocks : List (List ℕ)) (sound : IsSound g blocks) wh
       same_from_decides _ _
       (Decides-like _ (sound.marked b within).0 (sound.marked b within).1 one) (named-decides g blocks legible b)
 
-  -- files of which each stands in the image
+  -- files of which the image holds each
   pub Denotes-standing : (files : Files) → length files ≡ g.inodes → slot files 0 ≡ None
       → ((n : ℕ) → 1 ≤ n → n < g.inodes → Stands image n (slot files n)) → KeepsRules files → Denotes image files
   Denotes-standing files count zero stands rules = record {
@@ -282,7 +282,7 @@ possible {size} {inodes} told =
       room = grind (arith, nat_tests, a.1);
     }
 
--- ---- what the lack of memory tells
+-- ---- what a lack of memory means
 
 pub none-refused : {T X : Type 0} {fault : MakeFault} (what : Result X Wrong) (r : Result T MakeFault)
     → IsErrAnd r (λ f. f ≡ fault) → fault ≡ NoMemory → IfErr r (λ f. Refuses what f)
@@ -346,7 +346,7 @@ module _ {old mid : FileTree} {files : Files} (now : IsNow old mid files) (long 
   refuses-all (Ok u) refuses = tt
   refuses-all (Err fault) refuses = subst (λ m. Refuses m fault) (sym made-same) refuses
 
--- what a good end was told of
+-- what a good end knows
 pub when-ok : {T U E F : Type 0} {P : Type 0} {Q R : U → Type 0} (flushed : Result T E) (r : Result U F)
     → OnOk flushed P → OnOk r (IsOk flushed) → IfOk r Q → ((x : U) → P → Q x → R x) → IfOk r R
 when-ok flushed (Err e) left ok told so = tt

@@ -1,4 +1,4 @@
--- Files with an entry more: what stands at each number, and that they keep the rules.
+-- Files with one more entry: what each number holds, and that they keep the rules.
 use Rattle.imagemake.proofs.Common.{at_or, get_or-set_other, get_or-set_same, length-set, ◌≡◌, ◌≢◌, ℕ, ◌+◌, true, List}
 use Rattle.imagemake.proofs.Common.{[], ◌∷◌, ◌++◌, length, Option, Some, set, ap, sym, refl, ◌∙◌, subst, option_map}
 use Rattle.imagemake.proofs.Common.{unwrap_or, cond, set_comm, arith, false≢true, none-some, slot-within, Files, Node}
@@ -43,7 +43,7 @@ module _ {files : Files} {d : ℕ} {name : List ℕ} {n : ℕ} (thing : Thing) (
   abbrev pub entry : Entry
   entry = record { name = name; number = n }
 
-  -- the places of the directory, its new name among them
+  -- the entries of the directory, its new name among them
   abbrev pub places_more : List (Option Entry)
   places_more = can.places ++ Some entry ∷ []
 

@@ -31,7 +31,7 @@ use Rattle.unixmodel.specs.Manifest.{and_then, with_name, with_names, with_split
 
 -- ---- which number a name has in a directory, by the first entry of the name
 
--- the number of a name, where a node stands
+-- the number of a name in a slot's node
 abbrev pub finds : List ℕ → Option Node → Option ℕ
 finds name o = option_and_then (λ places. entry_number (first name places)) (live_places o)
 

@@ -25,7 +25,7 @@ pieces_first bs i at =
 pub pieces_last : (bs : List ℕ) → position (λ b. b == 0x2f) bs ≡ None → pieces bs ≡ bs ∷ []
 pieces_last bs none = pieces-whole bs (position-None (λ b. b == 0x2f) bs 0 none)
 
--- what stands from a place on, as a range of a slice has it
+-- where the first slash from an offset on is, as a range of a slice has it
 pub first-in : (path : List ℕ) (at : ℕ) (o : Option ℕ)
     → o ≡ position (λ b. b == 0x2f) (take (length path - at) (drop at path))
     → position (λ b. b == 0x2f) (drop at path) ≡ o

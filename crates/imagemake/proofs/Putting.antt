@@ -60,7 +60,7 @@ both a b zero h = refl
 both a b (suc zero) h = refl
 both a b (suc (suc k)) h = absurd (omega arith)
 
--- each place of what a thing makes is in use
+-- each entry of what a thing makes is in use
 pub packed-node : (n d : ℕ) (thing : Thing) → PackedAt (Some (node_for n d thing))
 packed-node n d (Bytes bytes) = tt
 packed-node n d (Special major minor) = tt
@@ -143,9 +143,9 @@ module _ (inodes : ℕ) (some : 2 ≤ inodes) where
     packed = bare-each (λ m o. PackedAt o) (packed-node 1 1 Folder) (λ m s. tt);
   }
 
--- ---- a failed access is told only where the device owns up to it
+-- ---- a failed access is reported only where the device counts it
 
--- the fault that is told
+-- the fault that is returned
 pub told_err : {T E : Type 0} {fault : E} (r : Result T E) → IsErrAnd r (λ f. f ≡ fault) → r ≡ Err fault
 told_err r told = let err = err_from_is_err_and r told in err.1 ∙ ap Err err.2
 
@@ -168,12 +168,12 @@ module _ {F : Type 0} {fault : F} where
         failed = λ _. let rises = cause.failed (ap is_err was) in omega arith;
       }
 
-  -- the last step tells
+  -- the last step's count is that of both
   pub Owns-after : {a b c : ℕ} {r : Result (Unit {0}) F} → a ≤ b → Owns fault b c r → Owns fault a c r
   Owns-after h owns = record
       { later = let l = owns.later in omega arith; failed = λ e. let rises = owns.failed e in omega arith }
 
-  -- a step tells its fault, and it is passed on
+  -- a step returns its fault, and it is passed on
   pub Owns-told : {a b c : ℕ} {told : F} {r : Result (Unit {0}) F} → a ≤ b → Owns fault b c (Err told) → r ≡ Err told
       → Owns fault a c r
   Owns-told {a} {c = c} h owns is = subst (Owns fault a c) (sym is) (Owns-after h owns)
@@ -181,7 +181,7 @@ module _ {F : Type 0} {fault : F} where
   pub Owns-done : {a c : ℕ} → a ≤ c → Owns fault a c (Ok tt)
   Owns-done h = record { later = h; failed = λ e. cc }
 
-  -- another fault is told
+  -- another fault is returned
   pub Owns-other : {a c : ℕ} {other : F} {r : Result (Unit {0}) F} → a ≤ c → (other ≡ fault → ⊥) → r ≡ Err other
       → Owns fault a c r
   Owns-other {other = other} h differs is =
@@ -257,7 +257,7 @@ pub took-thing : {old now : FileTree} (number : ℕ) {o : Option Node} {node : N
     → IsNow old now (set old.files number o) → IsNow old now (put old.files number node)
 took-thing {old} {now} number is took = subst (λ o. IsNow old now (set old.files number o)) is took
 
--- it stands at its number, and what stood elsewhere stays
+-- it is at its number, and what other numbers hold stays
 module _ {old mid : FileTree} {number : ℕ} (node : Node) (free : IsUnnamed old.files number)
     (is : IsNow old mid (put old.files number node)) where
   pub here-now : slot mid.files number ≡ Some node
@@ -268,7 +268,7 @@ module _ {old mid : FileTree} {number : ℕ} (node : Node) (free : IsUnnamed old
       some (sym (get_or-set_other _ number d _ None (λ e. some (ap (slot old.files) e ∙ free.unused)))
       ∙ sym (ap (λ (fs : Files). slot fs d) (now-files is)) ∙ none)
 
--- ---- the first two places of a directory
+-- ---- the first two entries of a directory
 
 pub lacks-dots : (limit : ℕ) (files : Files) (n d : ℕ) → slot files n ≡ Some (Directory 1 [])
     → limit < blocks_of files + 1 → LacksRoomFor limit files n (bare_directory n d)
@@ -311,7 +311,7 @@ module _ (t : FileTree) (none : t.files ≡ free_slots (length t.files)) (some :
         ap (λ (fs : Files). put fs 1 (bare_directory 1 1)) (now-files is) ∙ set-set t.files 1 _ _
         ∙ ap (λ (fs : Files). put fs 1 (bare_directory 1 1)) none
 
--- ---- a name at the end of a directory of which each place is in use
+-- ---- a name at the end of a directory of which each entry is in use
 
 module _ (places : List (Option Entry)) (packed : IsPacked places) where
   room-packed : room_in places ≡ room_behind (length places)
@@ -417,7 +417,7 @@ abbrev pub room-at : {files : Files} {d k : ℕ} (h : HasDirectory files d) → 
     → HasRoom files d k
 room-at h room = record { links = h.links; places = h.places; here = h.here; room = room }
 
--- ---- the last place
+-- ---- the last entry
 
 module _ {files : Files} {d : ℕ} (h : HasDirectory files d) where
   pub room-full-at : most_places ≤ length h.places → None ≡ room_in h.places

@@ -21,14 +21,14 @@ abbrev pub TellsFull : Type 0 → StoreFault → Type 0
 TellsFull full Blocks = full
 TellsFull full Device = ⊤
 
--- a fault is told only where the device counts a failed access
+-- a fault is returned only where the device counts a failed access
 pub record Owns {E : Type 0} (fault : E) (before now : ℕ) (result : Result (Unit {0}) E) : Type 0 where
   pub later : before ≤ now
   pub failed : IsErrOf result fault → Rises before now
 
 -- ---- a directory
 
--- each place is in use
+-- each entry is in use
 abbrev pub IsPacked : List (Option Entry) → Type 0
 IsPacked places = (k : ℕ) → k < length places → is_some (slot places k) ≡ true
 
@@ -50,7 +50,7 @@ pub record HasDirectory (files : Files) (d : ℕ) : Type 0 where
 abbrev pub LacksRoomFor : ℕ → Files → ℕ → Node → Type 0
 LacksRoomFor limit files n node = (longest < size_of node) ⊎ (limit < blocks_of (put files n node))
 
--- the node stands at n, or there is no room for it
+-- the node is at n, or there is no room for it
 pub record Puts (old new : FileTree) (n : ℕ) (node : Node) (result : Result (Unit {0}) StoreFault) : Type 0 where
   pub done : MatchResult result (λ _. HasFiles old new (put old.files n node))
       (TellsFull (LacksRoomFor old.block_limit old.files n node))
@@ -63,7 +63,7 @@ PutsName old new d e thing result =
 
 -- ---- an entry
 
--- n isn't in use, and is to have this name in directory d, of which each place is
+-- n isn't in use, and is to have this name in directory d, of which each entry is in use
 pub record CanAdd (files : Files) (d : ℕ) (name : List ℕ) (n : ℕ) : Type 0 where
   pub links : ℕ
   pub places : List (Option Entry)

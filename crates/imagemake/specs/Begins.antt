@@ -19,7 +19,7 @@ abbrev pub make_fault : StoreFault → MakeFault
 make_fault Blocks = told.Blocks
 make_fault Device = told.NoMemory
 
--- and is told only where the device owns up to it
+-- it is returned only where the device counts a failed access
 abbrev pub BlamesDevice : ℕ → ℕ → Result (Unit {0}) MakeFault → Type 0
 BlamesDevice before now result = Owns told.NoMemory before now result
 
@@ -33,7 +33,7 @@ pub record IsSpot (made : List MadeName) (path : List ℕ) (d : ℕ) (name : Lis
   pub folder : is_folder made d ≡ true
   pub absent : found made d name ≡ None
 
--- whatever it is to name, the fault tells what is wrong with the path
+-- whatever it is to name, the fault says what is wrong with the path
 abbrev pub RefusesPath : List MadeName → List ℕ → MakeFault → Type 0
 RefusesPath made path fault =
     (blocks inodes : ℕ) (files : Files) (n : ℕ) (thing : Thing) → IsListed files made
@@ -45,7 +45,7 @@ pub record IsMade (t : FileTree) (made : List MadeName) : Type 0 where
   pub begun : IsBegun t.block_limit (length t.files) t.files (length made + 2)
   pub listed : IsListed t.files made
 
--- the fault tells why an entry can't come to those that are made
+-- the fault says why an entry can't come to those that are made
 abbrev pub RefusesEntry : FileTree → List MadeName → ManifestEntry → MakeFault → Type 0
 RefusesEntry t made entry fault =
     Refuses (with_manifest_entry t.block_limit (length t.files) t.files (length made + 2) entry) fault

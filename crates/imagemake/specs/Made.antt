@@ -25,7 +25,7 @@ pub record Names : Type 0 where
   pub items : List MadeName
   pub spare : ℕ
 
--- there is room for the names of so many inodes
+-- there is room for the names of that many inodes
 abbrev pub HasRoom : ℕ → Names → Type 0
 HasRoom inodes made = inodes ≤ length made.items + made.spare
 
@@ -56,11 +56,11 @@ reach made d names = option_map (λ (split : List (List ℕ) × List ℕ). (seek
 abbrev pub Extends : List MadeName → List MadeName → Type 0
 Extends made more = (d : ℕ) (name : List ℕ) (n : ℕ) → found made d name ≡ Some n → found more d name ≡ Some n
 
--- the path leads to number n, whatever else is made: what stands below it is looked up from there
+-- the path leads to number n, whatever else is made: what it holds is looked up from there
 pub record LeadsTo (made : List MadeName) (above : List ℕ) (n : ℕ) : Type 0 where
   pub below : (more : List MadeName) → Extends made more → (bs : List ℕ)
       → reach more 1 (pieces (drop 1 (above ++ 0x2f ∷ bs))) ≡ reach more n (pieces bs)
 
--- what all but the last name of a path reach, and what stands behind it
+-- what all but the last name of a path reach, and that last name
 abbrev pub ReachesSpot : List MadeName → List ℕ → Spot → Type 0
 ReachesSpot made path spot = reach made 1 (pieces (drop 1 path)) ≡ Some (Some spot.directory, spot.below.now)

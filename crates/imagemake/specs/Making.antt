@@ -1,4 +1,4 @@
--- What a manifest means, and which fault tells what is wrong with it.
+-- What a manifest means, and which fault says what is wrong with it.
 use Rattle.std.specs.Prelude.{Bool, Err, List, Ok, Result, false, length, map, true, ⊤, ℕ, ◌*◌, ◌≡◌}
 use Rattle.unixmodel.specs.Files.{Files}
 use Rattle.unixmodel.specs.Manifest as unix
@@ -27,7 +27,7 @@ entry_of e = record { path = e.path.items; thing = thing_of e.thing }
 abbrev pub meaning : List Entry → List ManifestEntry
 meaning entries = map entry_of entries
 
--- the fault tells what is wrong; the host may lack memory at any time
+-- the fault says what is wrong; the host may lack memory at any time
 abbrev pub Refuses : {X : Type 0} → Result X Wrong → MakeFault → Type 0
 Refuses r Name = r ≡ Err Wrong.Name
 Refuses r Twice = r ≡ Err Wrong.Twice

@@ -28,7 +28,7 @@ impl From<StoreFault> for MakeFault {
     }
 }
 
-// The directory that a path's last name is to stand in, above that name.
+// The directory that is to hold a path's last name, above that name.
 fn locate<'a>(made: &Made<'a>, path: &'a [u8]) -> Result<Spot<'a>, MakeFault>
     requires { length made.now.items < 65536 }
     ensures spot { IfOk result (λ spot. IsSpot made.now.items path.now spot.directory spot.below.now) }

@@ -29,7 +29,7 @@ use std::alloc::Global;
 use store::store_root;
 use tree::Tree;
 
-/// Makes an image of so many blocks and places for inodes.
+/// Makes an image of `blocks` blocks and `inodes` inodes.
 pub fn make(
     alloc: Global,
     manifest: &Manifest,

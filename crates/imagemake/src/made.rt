@@ -44,7 +44,7 @@ impl<'a> Model for Made<'a> {
 }
 
 impl<'a> Made<'a> {
-    /// No names, with room for so many.
+    /// No names, with room for `capacity` of them.
     pub fn with_capacity(alloc: Global, capacity: usize) -> Result<Made<'a>, AllocError>
         ensures empty { IfOk result (λ made. made.items ≡ []) }
         ensures room { IfOk result (λ made. capacity ≤ made.spare) }

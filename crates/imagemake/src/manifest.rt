@@ -12,7 +12,7 @@ use thiserror::Error;
 pub struct Entry {
     /// A slash and names, with a slash between two.
     pub path: Vec<u8>,
-    /// What stands there.
+    /// What is at the path.
     pub thing: Thing,
 }
 

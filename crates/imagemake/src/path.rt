@@ -5,7 +5,7 @@ ghost use Rattle.unixmodel.specs.Manifest.{names_in};
 
 use imagerules::is_good_name;
 
-// The place of the first slash.
+// The index of the first slash.
 pub fn first_slash(bytes: &[u8]) -> Option<usize>
     ensures { result ≡ position (λ b. b == 0x2f) bytes.now }
 {

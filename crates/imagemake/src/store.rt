@@ -70,7 +70,7 @@ pub fn store_entry<D: BlockDev>(
     Ok(())
 }
 
-// Stores a thing without its name; `directory` is the one that it is to stand in.
+// Stores a thing without its name; `directory` is the one that is to hold it.
 fn store_node<D: BlockDev>(
     tree: &mut Tree<D>,
     directory: usize,
@@ -90,7 +90,7 @@ fn store_node<D: BlockDev>(
     }
 }
 
-// A directory without places gets its first two.
+// A directory without entries gets its first two.
 fn put_dots<D: BlockDev>(
     tree: &mut Tree<D>,
     number: usize,
@@ -123,7 +123,7 @@ fn put_bytes<D: BlockDev>(tree: &mut Tree<D>, number: usize, bytes: &[u8]) -> Re
     Ok(())
 }
 
-// The place behind those of a directory, unless it is full.
+// The index after the last entry of a directory, unless it is full.
 fn last_place<D: BlockDev>(
     tree: &mut Tree<D>,
     directory: usize,

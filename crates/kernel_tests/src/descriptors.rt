@@ -51,7 +51,7 @@ fn open_on(target: Target) -> OpenFile {
 #[derive(Clone, Copy)]
 enum Row {
     Open(Target, Result<usize, FileFault>),
-    /// Opens it in each place, from the first to the last.
+    /// Opens it in each slot, from the first to the last.
     Fill(Target),
     Dup(usize),
     Close(usize, Option<Target>),

@@ -7,7 +7,7 @@ use frames::Frames;
 use ram::{FrameNo, Ram};
 use std::process::Abort;
 
-/// The memory has so many frames.
+/// The memory has `count` frames.
 pub fn has_frames(rt: &impl Abort, ram: &Ram, count: u32)
     ensures { length ram.now ≡ count }
 {
@@ -25,7 +25,7 @@ pub fn expect_case(rt: &impl Abort, is_so: bool, case: &str) {
     assert!(rt; is_so, "{case}");
 }
 
-/// A memory of so many frames.
+/// A memory of `count` frames.
 pub fn memory(rt: &(impl Abort + AllocGlobal), count: u32) -> Ram
     requires { count ≤ 32768 }
     ensures { length result ≡ count }
@@ -44,7 +44,7 @@ pub fn all_free(rt: &(impl Abort + AllocGlobal), ram: &mut Ram) -> Frames
     Frames::new(rt.alloc(), ram).expect(rt, "counts")
 }
 
-/// Puts numbers of 8 bytes into frames, each at its place.
+/// Puts numbers of 8 bytes into frames, each at its offset.
 pub fn store_all(rt: &impl Abort, ram: &mut Ram, rows: &[(u32, usize, u64)]) {
     for (frame, at, number) in rows {
         let frames = ram.frame_count();

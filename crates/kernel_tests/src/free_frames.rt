@@ -62,7 +62,7 @@ impl Counted {
         Some((first, second, self.frames.free()))
     }
 
-    // Does it, and tells whether that gives what is expected.
+    // Does it, and returns whether that gives what is expected.
     fn does(&mut self, rt: &impl Abort, act: Act) -> bool {
         match act {
             Act::Take(frame) => self.frames.take(&self.ram) == frame,
@@ -98,7 +98,7 @@ impl Counted {
     }
 }
 
-// Acts in a memory of so many frames; beside each: how many hold the first two frames, and how many are free then.
+// Acts in a memory of `frames` frames; beside each: how many hold the first two frames, and how many are free then.
 struct Case {
     name: &'static str,
     frames: u32,

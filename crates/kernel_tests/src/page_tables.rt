@@ -143,7 +143,7 @@ const KERNEL: Perm = Perm {
     u: false,
 };
 
-// What is done to pages of a new table in a memory of so many frames; beside each: how many frames are free then.
+// What is done to pages of a new table in a memory of `frames` frames; beside each: how many frames are free then.
 struct Case {
     name: &'static str,
     frames: u32,

@@ -95,7 +95,7 @@ fn activate<T: Translate>(spaces: &mut Spaces<T>, at: usize) -> Option<bool> {
     Some(true)
 }
 
-// Whether the next instruction is answered so.
+// Whether the next instruction ends in this trap, or none.
 fn execute(spaces: &mut Flat, trap: Option<Trap>) -> Option<bool> {
     if spaces.active().is_none() {
         return None;
@@ -126,7 +126,7 @@ fn has_byte(spaces: &Flat, at: usize, address: u64, byte: Option<u8>) -> Option<
     Some(spaces.readable(at, address).first().copied() == byte)
 }
 
-// Whether the path at an address has so many bytes, which are slashes.
+// Whether the path at an address has this many bytes, which are slashes.
 fn has_path(spaces: &Flat, at: usize, address: u64, count: Option<usize>) -> Option<bool> {
     if !spaces.has_space(at) {
         return None;
@@ -156,7 +156,7 @@ enum Act {
     Destroy(usize),
     Activate(usize),
     Deactivate,
-    /// The next instruction is answered so.
+    /// The next instruction ends in this trap, or none.
     Execute(Option<Trap>),
     /// Puts a number into register a0.
     SetA0(u64),
@@ -202,8 +202,8 @@ fn answer(spaces: &mut Flat, act: Act) -> Option<bool> {
     }
 }
 
-// Acts in a memory of so many frames, the latter ones after the first; beside each: whether it is done, or so, and how
-// many frames are free then.
+// Acts in a memory of `frames` frames, `acts` after `first`.
+// Beside each: whether it is done, or is so, and how many frames are free then.
 struct Case {
     name: &'static str,
     frames: u32,

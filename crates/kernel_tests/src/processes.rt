@@ -19,7 +19,7 @@ fn child_of(parent: u32) -> Process {
     }
 }
 
-// How many places are taken.
+// How many slots are taken.
 fn taken(table: &Table) -> usize {
     table
         .places()
@@ -56,7 +56,7 @@ fn looks_at_who_is_awake(rt: HostRuntime) {
     assert!(rt; table.pick(|_, at| at == 1) == Some(1));
 }
 
-// A mask of these places.
+// A mask of these slots.
 fn mask_of(places: &[usize]) -> Mask {
     let mut mask = Mask::all();
     for at in 0..PLACES {
@@ -75,7 +75,7 @@ fn a_mask_has_what_was_set(rt: HostRuntime) {
     let (all, none, mask) = (Mask::all(), mask_of(&[]), mask_of(&SET));
     assert!(rt; (mask.has(5), mask.has(63), mask.has(0)) == (true, true, false));
     assert!(rt; (all.next(9, 3), none.next(9, 1)) == (Some(3), None));
-    // the last picked place, the first turn to look at, and the turn of the place that is found
+    // the last picked slot, the first turn to look at, and the turn of the slot that is found
     for (last, turn, found) in [(63, 1, 6), (63, 7, 64), (5, 1, 58), (5, 59, 64)] {
         assert!(rt;
             mask.next(last, turn) == Some(found),
@@ -91,22 +91,22 @@ const PENDING: Pending = Pending {
     since: 5,
 };
 
-// What is done to a table, or what it tells.
+// What is done to a table, or what it returns.
 #[derive(Clone, Copy)]
 enum Act {
     /// A child of a process comes.
     Alloc(u32, Result<(usize, u32), ProcFault>),
-    /// So many children of process 1 come, each in a place.
+    /// That many children of process 1 come, each into a slot.
     Children(usize),
-    /// The place and the pid of who comes next.
+    /// The slot and the pid of the next process.
     NextSeat(Result<(usize, u32), ProcFault>),
-    /// Puts a child of a process into a place.
+    /// Puts a child of a process into a slot.
     Put(usize, u32),
     Run(usize),
     Stop,
     Block,
     Exit(usize, i32),
-    /// A process reaps a child: its place, its pid and its status.
+    /// A process reaps a child: its slot, its pid and its status.
     Reap(u32, Option<(usize, u32, i32)>),
     Running(Option<usize>),
     Taken(usize),
@@ -114,7 +114,7 @@ enum Act {
     HasMode(usize, Mode),
     HasChild(u32, bool),
     Find(u32, Option<usize>),
-    /// In a place there is what remains of a child of process 1: its pid and its status.
+    /// A slot holds what remains of a child of process 1: its pid and its status.
     IsZombie(usize, u32, i32),
     ZombieChild(u32, Option<usize>),
 }

@@ -16,9 +16,9 @@ struct Watched {
 // What is done with a pipe, or asked, and the answer.
 #[derive(Clone, Copy)]
 enum Act {
-    /// Writes so many bytes.
+    /// Writes that many bytes.
     Write(usize, Option<usize>),
-    /// Reads so many bytes.
+    /// Reads that many bytes.
     Read(usize, Option<usize>),
     Close(End, bool),
     IsOpen(End, bool),
@@ -58,7 +58,7 @@ impl Watched {
         Some(count)
     }
 
-    // Reads so many bytes, and notes those that there are.
+    // Reads up to `len` bytes, and notes those that there are.
     fn read(&mut self, rt: &impl Abort, len: usize) -> Option<usize> {
         let mut buffer = [0; 600];
         let frames = self.ram.frame_count();
@@ -72,7 +72,7 @@ impl Watched {
         Some(count)
     }
 
-    // Does it, and tells whether that gives what is expected.
+    // Does it, and returns whether that gives what is expected.
     fn does(&mut self, rt: &impl Abort, act: Act) -> bool {
         match act {
             Act::Write(offered, count) => {

@@ -43,14 +43,14 @@ const FAULT: Trap = Trap {
     address: 0,
 };
 
-// A program, what its instructions are answered with, and what comes of it.
+// A program, what each of its instructions returns, and what comes of it.
 struct Case {
     name: &'static str,
     code: [u64; 3],
     traps: &'static [Option<Trap>],
     registers: &'static [(usize, u64)],
     pc: u64,
-    /// A number in memory: its frame, its place and its value.
+    /// A number in memory: its frame, its offset and its value.
     stored: (u32, usize, u64),
 }
 

@@ -5,7 +5,7 @@ use std::alloc::Global;
 use std::io;
 use std::io::Write;
 
-// Takes one byte at a time, so many of them, and then none.
+// Takes one byte at a time, `room` bytes in all, and then none.
 #[derive(Drop)]
 struct Narrow {
     taken: Vec<u8>,
@@ -58,7 +58,7 @@ enum Act {
     /// These keys print this.
     Type(&'static [u8], &'static [u8]),
     CanTake(bool),
-    /// A read of so many bytes takes these, and is over or not.
+    /// A read of that many bytes takes these, and is over or not.
     Read(usize, &'static [u8], bool),
 }
 

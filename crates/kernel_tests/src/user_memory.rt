@@ -42,7 +42,7 @@ impl Model for Alone {
 }
 
 impl Alone {
-    // A new space in a memory of so many frames.
+    // A new space in a memory of `count` frames.
     fn new(rt: &(impl Abort + AllocGlobal), count: u32) -> Alone
         requires { count ≤ 32768 }
     {
@@ -104,7 +104,7 @@ impl Alone {
         self.space.load_regs(&self.ram, registers)
     }
 
-    // The copy in the place of the space, which keeps its frames.
+    // A copy, instead of the space, whose frames stay taken.
     fn copied(self, rt: &impl Abort) -> Alone {
         let Alone {
             mut ram,
@@ -120,7 +120,7 @@ impl Alone {
         self.space.copy(&mut self.ram, &mut self.frames).err()
     }
 
-    // Gives back all frames of the space, and tells how many are free then.
+    // Gives back all frames of the space, and returns how many are free then.
     fn end(self) -> u32 {
         let Alone {
             mut ram,
@@ -144,7 +144,7 @@ impl Alone {
         Ok(back)
     }
 
-    // How many bytes a string has that a buffer of so many bytes takes, 4 at the most.
+    // How many bytes a string has that fits in a buffer of `room` bytes, 4 at most.
     fn string(&self, address: u64, room: usize) -> Option<usize> {
         let mut back = [0; 4];
         self.space
@@ -187,11 +187,11 @@ enum Act {
     IsReadable(u64, &'static [u8]),
     CanRead(u64, u64, bool),
     CanWrite(u64, u64, bool),
-    /// What a buffer of so many bytes takes.
+    /// How many bytes a string has that fits in a buffer of that many bytes.
     HasString(u64, usize, Option<usize>),
 }
 
-// What is done to a new space in a memory of so many frames; beside each: how many frames are free then.
+// What is done to a new space in a memory of `frames` frames; beside each: how many frames are free then.
 struct Case {
     name: &'static str,
     frames: u32,

@@ -9,7 +9,7 @@ use sv39::{
 };
 use test_translators::Noting;
 
-// Addresses, accesses, and the places that these have in memory.
+// Virtual addresses, accesses, and the physical addresses that they reach.
 const ADDRESSES: [(u64, Access, Option<u64>); 10] = [
     (0x3abc, Access::Load, Some(0x8000_3abc)),
     (0x3abc, Access::Store, None),
@@ -48,7 +48,7 @@ fn is_answer(ram: &Ram, plain: &mut Plain, va: u64, access: Access, want: Option
     walked == want && translated == want && looked_up == want
 }
 
-// Whether one that remembers what this translator answers says so, after a fence.
+// Whether a translator that remembers what this one returns returns the same, after a fence.
 fn is_recalled<T: Translate>(
     ram: &Ram,
     below: T,

@@ -1,4 +1,4 @@
-//! One process: booting, its size, the answers of calls, and how it ends.
+//! One process: booting, its size, what calls return, and how it ends.
 use crate::play::Act::{Answer, Answered, Free, Halts, Printed, Runs, Steps};
 use crate::play::{
     Case, EXIT, GETPID, MINUS_ONE, NEXT_CALL, Program, ROOM, SBRK, UPTIME, USUAL, WRITE, holds_at,

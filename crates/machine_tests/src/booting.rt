@@ -37,7 +37,7 @@ fn disk_of(alloc: Global, image: &[u8]) -> Option<MemDisk> {
     MemDisk::new(bytes).ok()
 }
 
-// A machine over this translator in so many frames.
+// A machine with `frames` frames over this translator.
 fn booted<T: Translate>(
     alloc: Global,
     image: &[u8],
@@ -57,7 +57,7 @@ fn is_begun(seen: &Seen) -> bool {
         && seen.registers[11] == 12256
 }
 
-// Whether the argument and its pointer stand at the end of the stack's page.
+// Whether the argument and its pointer are at the end of the stack's page.
 fn has_path(page: &[u8; FRAME_SIZE]) -> bool {
     page[4064..].starts_with(&[0xf0, 0x2f, 0, 0, 0, 0, 0, 0])
         && page[4080..].starts_with(b"/init\0")
@@ -130,7 +130,7 @@ fn what_the_translator_held_is_forgotten(rt: HostRuntime) {
     }
 }
 
-// Why a machine in so many frames doesn't boot from an image.
+// Why a machine with `frames` frames doesn't boot from an image.
 fn fault_of(alloc: Global, image: &[u8], frames: u32) -> Option<BootFault> {
     let disk = disk_of(alloc, image)?;
     boot(alloc, disk, Plain::new(), frames).err()
@@ -182,7 +182,7 @@ fn tells_why_it_does_not_boot(rt: HostRuntime) {
     }
 }
 
-// Why it doesn't boot from a disk whose accesses fail after so many good ones.
+// Why it doesn't boot from a disk whose accesses fail after `good` good ones.
 fn failing(alloc: Global, image: &[u8], good: u64) -> Option<BootFault> {
     let disk = FailAt::new(disk_of(alloc, image)?, NonZeroU64::MIN.saturating_add(good));
     boot(alloc, disk, Plain::new(), 64).err()

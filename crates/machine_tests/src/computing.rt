@@ -6,7 +6,7 @@ use std::alloc::Global;
 use sv39::{Plain, Recent};
 use unixmodel::event::Event;
 
-// So many steps, and then instructions, at most so many, up to these stops; how many they are, and the pc after them.
+// Single steps first; then at most n instructions, up to one of these stops; how many they are, and the pc after them.
 type Piece<'a> = (u32, u32, &'a [u64], u32, u64);
 
 // Two calls: the first instruction is done once, and from 4 on there is a loop with the call at 20 and the jump at 28.

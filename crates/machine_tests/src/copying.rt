@@ -75,7 +75,7 @@ fn copy_of(alloc: Global, machine: &Machine<MemDisk, Plain>) -> Option<Machine<M
     machine.copy(alloc, stale(&mut other, root)).ok()
 }
 
-/// Whether two machines tell the same of themselves.
+/// Whether two machines show the same processes, holdings and free frames.
 pub(crate) fn is_even<T: Translate, U: Translate>(
     one: &Machine<MemDisk, T>,
     other: &Machine<MemDisk, U>,
@@ -114,7 +114,7 @@ fn go_alike<T: Translate, U: Translate>(
     true
 }
 
-// Whether so many events, and then those that are left, print what all print.
+// Whether the output before a copy and the output after it are all that a run prints.
 fn is_printed(before: &[u8], after: &[u8]) -> bool {
     PRINTED.starts_with(before) && PRINTED.get(before.len()..) == Some(after)
 }
@@ -188,7 +188,7 @@ fn stays_stopped(alloc: Global, machine: &Machine<MemDisk, Plain>, saves: bool) 
     Some(still && copy.save().is_ok() == saves)
 }
 
-// The same for a program that says `hi` at a console that takes so many bytes, and why it stops.
+// The same for a program that says `hi` at a console that takes `room` bytes, and why it stops.
 fn is_copied_stopped(alloc: Global, room: usize, why: Halt, saves: bool) -> Option<bool> {
     let mut machine = boot_flat_with(alloc, &BYTES, Plain::new(), 64).ok()?;
     let done = machine.run(&[Event::Step; 9], &mut narrow_console(alloc, room));

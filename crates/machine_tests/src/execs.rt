@@ -1,4 +1,4 @@
-//! exec: a program in the place of the one that runs, out of a file that the one that runs has written.
+//! exec: a program replaces the running one, from a file that the running one has written.
 use crate::play::Act::{
     Answer, Answered, Bytes, Free, Halts, NoPage, Page, Pc, Size, Steps, Stores,
 };
@@ -10,7 +10,7 @@ use machine::{Halt, Perm};
 // A new file, open for writing alone.
 const NEW: u64 = 0x201;
 
-// What stands behind nine calls: a name, another one, argv with the name twice, the bytes of an ELF file.
+// After nine calls: a name, another name, argv with the name twice, and the bytes of an ELF file.
 const NAME: u64 = 32 + 32 * 9;
 
 const NOWHERE: u64 = NAME + 8;
@@ -37,7 +37,7 @@ const CALLS: [[u64; 4]; 15] = [
     [0x10102464c457f, 0, 0x100f30002, 0],
     // one of them: load, R and X
     [64, 0, 0x38004000000000, 1],
-    // 8 bytes from place 120 on go to address 0
+    // 8 bytes from offset 120 on go to address 0
     [0x500000001, 120, 0, 0],
     // addi a7, zero, 11; ecall
     [8, 8, 0x1000, 0x7300b00893],
@@ -106,7 +106,7 @@ static RUNS: [Case; 4] = [
             Stores(2, 0x2000, false),
         ],
     },
-    // The strings of the two arguments stand below the end of the stack's page, and their pointers below them.
+    // The strings of the two arguments are below the end of the stack's page, and their pointers below them.
     Case {
         name: "a file is executed",
         size: USUAL,

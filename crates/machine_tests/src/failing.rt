@@ -45,7 +45,7 @@ const NAMES: u64 = 32 + 32 * 10;
 
 const LETTERS: u64 = NAMES + 24;
 
-// A root and the console, on a disk of which one access fails, after so many good ones.
+// A root and the console, on a disk of which one access fails, after `good` good ones.
 fn flat_tree(alloc: Global, good: u64) -> Option<Tree<FailAt<MemDisk>>>
     ensures { IfSome result IsFlat }
 {
@@ -113,7 +113,7 @@ impl Run {
         self.ask(asked)
     }
 
-    // So many events, up to the one at which it stops, and why it does.
+    // Does up to `events` events, and returns the halt at which it stops, if it does.
     fn play(&mut self, events: usize, asked: Asked) -> Option<Halt> {
         for _ in 0..events {
             if let Err(halt) = self.advance(asked) {
@@ -123,14 +123,14 @@ impl Run {
         None
     }
 
-    // Whether events are answered by that it has halted.
+    // Whether every further event returns `Halted`.
     fn is_still(&mut self) -> bool {
         self.machine.step(Event::Step, &mut self.out) == Err(Halt::Halted)
             && self.machine.step(Event::Key(0x61), &mut self.out) == Err(Halt::Halted)
             && self.machine.run(&[Event::Tick], &mut self.out) == Err(Halt::Halted)
     }
 
-    // Whether it tells nothing of its disk, and its process can be looked at still.
+    // Whether its disk can't be read any more, and its process still can.
     fn is_mute(&mut self) -> bool {
         let mut bytes = [UNTOLD; MOST_READ];
         self.machine.stat_inode(1) == Err(Halt::Halted)
@@ -155,14 +155,14 @@ impl Run {
     }
 }
 
-// What so many events print where no access fails.
+// What the first `events` events print where no access fails.
 fn printed_by(alloc: Global, events: usize) -> Option<Vec<u8>> {
     let mut run = Run::boot(alloc, ACCESSES)?;
     let _halt = run.play(events, Asked::Nothing);
     Some(run.printed())
 }
 
-// How a machine goes whose disk fails after so many good accesses.
+// How a machine goes whose disk fails after a number of good accesses.
 #[derive(Clone, Copy, PartialEq)]
 enum Course {
     // It doesn't boot.
@@ -175,7 +175,7 @@ enum Course {
     Strays,
 }
 
-// Whether so many events print this where no access fails.
+// Whether the first `events` events print this where no access fails.
 fn is_printed_by(alloc: Global, events: usize, printed: &[u8]) -> bool {
     match printed_by(alloc, events) {
         Some(wanted) => wanted.as_slice() == printed,

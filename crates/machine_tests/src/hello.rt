@@ -17,7 +17,7 @@ use unixmodel::event::Event;
 use unixmodel::event::Event::{Step, Tick};
 use unixmodel::trap::Access;
 
-// Writes `hi` and a line feed, which stand behind the instructions, and exits with status 0.
+// Writes `hi` and a line feed, which follow the instructions, and exits with status 0.
 const HELLO: [u32; 8] = [
     0x0010_0513, // addi a0, zero, 1
     0x0200_0593, // addi a1, zero, 32

@@ -1,4 +1,4 @@
-//! What a machine tells of the files of its disk.
+//! What a machine reports of the files of its disk.
 use crate::play::Act::{Halts, Mute, Node, Printed, Reads, Steps};
 use crate::play::{Case, EXIT, MKDIR, MKNOD, NEXT_CALL, Program, USUAL, WRITE, run_each};
 use machine::{Halt, Stat};
@@ -27,13 +27,13 @@ const EMPTY: Stat = Stat {
     size: 32,
 };
 
-// The places of the root, each of 16 bytes: a number, and a name.
+// The entries of the root, each of 16 bytes: a number, and a name.
 const PLACES: [u8; 48] = [
     1, 0, 0x2e, 0, 0, 0, 0, 0, 0, 0, 0, 0, 0, 0, 0, 0, 1, 0, 0x2e, 0x2e, 0, 0, 0, 0, 0, 0, 0, 0, 0,
     0, 0, 0, 2, 0, 0x63, 0x6f, 0x6e, 0x73, 0x6f, 0x6c, 0x65, 0, 0, 0, 0, 0, 0, 0,
 ];
 
-// Behind three calls stand two names.
+// Two names follow three calls.
 const NAMES: u64 = 32 + 32 * 3;
 
 const ROOT_OF_4: Stat = Stat { size: 64, ..ROOT };

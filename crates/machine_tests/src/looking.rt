@@ -1,4 +1,4 @@
-//! What a machine tells of what its processes hold, of open files and pipes, and whether it has anything to do.
+//! What a machine reports of its processes' holdings, of open files and pipes, and whether it has anything to do.
 use crate::play::Act::{Answers, Closed, Holds, Idle, Is, Next, Opens, Pipe, Steps};
 use crate::play::{
     CLOSE, Case, DUP, EXIT, FIRST_ANSWER, FORK, NEXT_ANSWER, PIPE, Program, READ, READING, Row,
@@ -6,7 +6,7 @@ use crate::play::{
 };
 use machine::{Call, OpenOn, Pending, ProcessState};
 
-// Where the stack's page begins, and a place behind it, into which the reads go.
+// Where the stack's page begins, and an address above it, to which the reads go.
 const STACK: u64 = 0x2000;
 
 const BUFFER: u64 = 0x2800;

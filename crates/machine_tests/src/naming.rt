@@ -6,7 +6,7 @@ const DONE: (u64, u32) = (0, 55);
 
 const REFUSED: (u64, u32) = (MINUS_ONE, 55);
 
-// Behind ten calls stand the paths of what is made, or isn't.
+// The paths of what is made, or isn't, follow ten calls.
 const BEHIND_10: u64 = 32 + 32 * 10;
 
 const DEVICE: u64 = BEHIND_10;
@@ -23,10 +23,10 @@ const ABOVE: u64 = BEHIND_10 + 40;
 
 const THROUGH: u64 = BEHIND_10 + 48;
 
-// Behind fourteen calls stand as many names.
+// As many names follow fourteen calls.
 const BEHIND_14: u64 = 32 + 32 * 14;
 
-// Where the stack's page begins, into which fstat tells.
+// Where the stack's page begins, to which fstat writes.
 const BUFFER: u64 = 0x2000;
 
 static RUNS: [Case; 4] = [
@@ -81,8 +81,8 @@ static RUNS: [Case; 4] = [
             DONE, DONE, DONE, DONE, DONE, DONE, DONE, DONE, DONE, DONE, DONE, DONE, DONE, REFUSED,
         ])],
     },
-    // The console is device 1's node 2, of type 3 and with one link; the root its node 1, of type 1, with 48 bytes. A
-    // slash stands behind the calls.
+    // The console is device 1's node 2, of type 3 and with one link; the root its node 1, of type 1, with 48 bytes.
+    // A slash follows the calls.
     Case {
         name: "fstat tells what a descriptor is open on",
         size: USUAL,

@@ -29,8 +29,8 @@ const FOLDER: Stat = Stat {
 };
 
 static RUNS: [Case; 4] = [
-    // 26 blocks are free: those of 25600 bytes, and the block of their numbers. Behind the calls stand `f`, `n`, `m`
-    // and `q`.
+    // 26 blocks are free: those of 25600 bytes, and the block of their numbers.
+    // `f`, `n`, `m` and `q` follow the calls.
     Case {
         name: "a write ends with the blocks",
         size: USUAL,
@@ -66,8 +66,9 @@ static RUNS: [Case; 4] = [
             ),
         ],
     },
-    // The twelfth block of a file comes with the block of its numbers, or not at all. Files of eleven and of twelve
-    // blocks leave two free, of which directories take one or both. Behind the calls stand `f`, `g`, `d` and `e`.
+    // The twelfth block of a file comes with the block of its numbers, or not at all.
+    // Files of eleven and of twelve blocks leave two free, of which directories take one or both.
+    // `f`, `g`, `d` and `e` follow the calls.
     Case {
         name: "one free block stays free",
         size: USUAL,
@@ -107,7 +108,8 @@ static RUNS: [Case; 4] = [
             ),
         ],
     },
-    // A file that takes all blocks loses its name while it is open. Behind the calls stand `f` and `d`.
+    // A file that takes all blocks loses its name while it is open.
+    // `f` and `d` follow the calls.
     Case {
         name: "an open file keeps its blocks",
         size: USUAL,
@@ -153,7 +155,7 @@ static RUNS: [Case; 4] = [
             ),
         ],
     },
-    // Behind the calls stand `d`, `/d`, `.`, `..`, `x`, `/` and an empty path.
+    // `d`, `/d`, `.`, `..`, `x`, `/` and an empty path follow the calls.
     Case {
         name: "nothing is found in a removed directory",
         size: USUAL,

@@ -22,8 +22,9 @@ const THIRD: (u64, u32) = (3, 55);
 
 const CLOSE_THIRD: [u64; 4] = [3, 0, 0, CLOSE];
 
-// Thirteen numbers of the disk are free, 3 to 15: a file for each, and no more; then the third goes, which has number
-// 5, and the last is made in its place. Behind the calls stand the names: one letter each.
+// Thirteen inodes of the disk are free, 3 to 15: one for each file, and no more.
+// Then the third file goes, which has number 5, and the last file gets this number.
+// The names follow the calls: one letter each.
 const FOURTEEN: [[u64; 4]; 33] = [
     [960, NEW, 0, OPEN],
     CLOSE_THIRD,
@@ -67,7 +68,7 @@ const EMPTY_FILE: Stat = Stat {
     size: 0,
 };
 
-// Where the paths stand that are opened, and eight slashes.
+// The address of the paths that are opened, and eight slashes.
 const SLASHES: u64 = 0x2f2f_2f2f_2f2f_2f2f;
 
 const LONG: u64 = 480;
@@ -82,12 +83,12 @@ const EMPTY: u64 = 528;
 
 const ROOT: u64 = 545;
 
-// Where a file's name stands that is opened with each flag, and where its bytes go.
+// The address of the name of a file that is opened with each flag, and that of its bytes.
 const NAME: u64 = 480;
 
 const BUFFER: u64 = 0x2800;
 
-// Where the paths stand that are looked up in two directories.
+// The addresses of the paths that are looked up in two directories.
 const FOLDER: u64 = 448;
 
 const FILE: u64 = 456;
@@ -124,8 +125,8 @@ static RUNS: [Case; 5] = [
             Node(5, Some(EMPTY_FILE)),
         ],
     },
-    // A name is cut to 14 bytes, and a path has 127 at most. Behind the calls stand `abcdefghijklmno`,
-    // `abcdefghijklmn`, `q`, `z`, and 128 slashes.
+    // A name is cut to 14 bytes, and a path has 127 at most.
+    // `abcdefghijklmno`, `abcdefghijklmn`, `q`, `z`, and 128 slashes follow the calls.
     Case {
         name: "open opens what a path names",
         size: USUAL,
@@ -174,8 +175,8 @@ static RUNS: [Case; 5] = [
             REFUSED,
         ])],
     },
-    // What is open for reading can't be written, and the other way round; 0x400 empties a file. Behind the calls stands
-    // `f`.
+    // What is open for reading can't be written, and the other way round; 0x400 empties a file.
+    // `f` follows the calls.
     Case {
         name: "open opens as its flags ask",
         size: USUAL,
@@ -213,8 +214,8 @@ static RUNS: [Case; 5] = [
             REFUSED,
         ])],
     },
-    // A path that begins with no slash is looked up where the process works. Behind the calls stand `d`, `f`, `..` and
-    // `d/f`.
+    // A path that begins with no slash is looked up in the process's current directory.
+    // `d`, `f`, `..` and `d/f` follow the calls.
     Case {
         name: "a process works in another directory",
         size: USUAL,

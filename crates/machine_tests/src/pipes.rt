@@ -5,7 +5,7 @@ use crate::play::{
     RUNNING, Row, SLEEP, USUAL, WRITE, WRITING, run_each,
 };
 
-// Where the stack's page begins, and a place behind it, into which the reads go.
+// Where the stack's page begins, and an address above it, to which the reads go.
 const STACK: u64 = 0x2000;
 
 const BUFFER: u64 = 0x2800;

@@ -117,7 +117,7 @@ pub(crate) const NEXT_ANSWER: usize = 8;
 /// As many bytes as no program prints.
 pub(crate) const ROOM: usize = 4096;
 
-/// What stands in a buffer before it is read into.
+/// What a buffer holds before it is read into.
 pub(crate) const UNTOLD: u8 = 0xaa;
 
 /// How much is read at once.
@@ -138,7 +138,7 @@ pub(crate) enum Program<'a> {
     Family(&'a [Row]),
 }
 
-/// A run of a program, with a name that is told where it doesn't go as it says.
+/// A run of a program, with a name that is printed where it doesn't go as expected.
 #[derive(Clone, Copy)]
 pub(crate) struct Case<'a> {
     pub(crate) name: &'a str,
@@ -155,7 +155,7 @@ pub(crate) const USUAL: (u32, usize) = (64, ROOM);
 /// What happens to a machine, or what is expected of it: of one process, by its pid, or of the whole.
 #[derive(Clone, Copy)]
 pub(crate) enum Act<'a> {
-    /// So many steps, none of which stops the machine.
+    /// That many steps, none of which stops the machine.
     Steps(usize),
     /// A timer interrupt and a step.
     Turn,
@@ -175,7 +175,7 @@ pub(crate) enum Act<'a> {
     Printed(&'a [u8]),
     /// How many frames are free.
     Free(u32),
-    /// What stands in a0 of the process with this pid.
+    /// The value of a0 of the process with this pid.
     Answer(u32, u64),
     /// What a process is doing.
     Is(u32, ProcessState),
@@ -219,11 +219,11 @@ pub(crate) enum Act<'a> {
     Faults(u64, Access),
     /// Whether the tables of a process let a store through at an address.
     Stores(u32, u64, bool),
-    /// What is told of a node of the disk, by its number.
+    /// What a machine reports of a node of the disk, by its number.
     Node(usize, Option<Stat>),
-    /// The bytes of a node from a place on, into so much room.
+    /// The bytes of a node from an offset on, into a buffer of that many bytes.
     Reads(usize, usize, usize, &'a [u8]),
-    /// Nothing is told of the disk any more.
+    /// Nothing can be read from the disk any more.
     Mute,
 }
 
@@ -294,7 +294,7 @@ fn pid_of(act: Act<'_>) -> u32 {
     }
 }
 
-// Whether the act says what is told of its process.
+// Whether a process is as the act says.
 fn tells(seen: &Seen, act: Act<'_>) -> bool {
     match act {
         Act::Answer(_, a0) => seen.registers[10] == a0,
@@ -308,7 +308,7 @@ fn tells(seen: &Seen, act: Act<'_>) -> bool {
     }
 }
 
-// Whether these bytes are from a place on in a page.
+// Whether a page has these bytes at an offset.
 fn holds(page: &[u8; FRAME_SIZE], place: usize, bytes: &[u8]) -> bool {
     match page.get(place..) {
         Some(rest) => rest.starts_with(bytes),
@@ -316,7 +316,7 @@ fn holds(page: &[u8; FRAME_SIZE], place: usize, bytes: &[u8]) -> bool {
     }
 }
 
-// Whether a page has nothing but zeros from a place on.
+// Whether a page has nothing but zeros from an offset on.
 fn is_zero(page: &[u8; FRAME_SIZE], place: usize) -> bool {
     match page.get(place..) {
         Some(rest) => [0; FRAME_SIZE].starts_with(rest),
@@ -324,7 +324,7 @@ fn is_zero(page: &[u8; FRAME_SIZE], place: usize) -> bool {
     }
 }
 
-// Whether these bytes stand at the front of a buffer that was read into, and no others do.
+// Whether a buffer that was read into begins with these bytes, and holds no others.
 pub(crate) fn is_front(out: &[u8; MOST_READ], bytes: &[u8]) -> bool {
     out.starts_with(bytes) && out.iter().skip(bytes.len()).all(|byte| *byte == UNTOLD)
 }
@@ -339,7 +339,7 @@ fn byte_at(ram: &Ram, pa: u64) -> Option<u8> {
     }
 }
 
-/// A console that takes one byte at a time, so many of them, and then none.
+/// A console that takes one byte at a time, `room` bytes in all, and then none.
 #[derive(Drop)]
 pub(crate) struct Narrow {
     taken: Vec<u8>,
@@ -362,13 +362,13 @@ impl Write for Narrow {
     }
 }
 
-/// A console that takes so many bytes.
+/// A console that takes `room` bytes.
 pub(crate) fn narrow_console(alloc: Global, room: usize) -> Writer<Narrow> {
     let taken = Vec::new(alloc);
     Writer::new(Narrow { taken, room })
 }
 
-// A machine, what it prints, and how many calls of a list were answered as they should be.
+// A machine, what it prints, and how many calls of a list returned what they should.
 #[derive(Drop)]
 struct Play<T: Translate> {
     machine: Machine<MemDisk, T>,
@@ -535,7 +535,7 @@ impl<T: Translate> Play<T> {
         }
     }
 
-    // Whether these are the bytes of a node from a place on, into so much room, and no others are written.
+    // Whether these are the bytes of a node from an offset on, read into `room` bytes, and no others are written.
     fn reads(&mut self, number: usize, at: usize, room: usize, bytes: &[u8]) -> bool {
         let mut out = [UNTOLD; MOST_READ];
         let Some(part) = out.get_mut(..room) else {
@@ -547,7 +547,7 @@ impl<T: Translate> Play<T> {
         }
     }
 
-    // Whether the next call of a list answers so.
+    // Whether the next call of a list returns this.
     fn answers_next(&mut self, a0: u64) -> bool {
         let holds = self.steps(NEXT_CALL) && self.tells(Act::Answer(1, a0));
         self.answered = self.answered.saturating_add(usize::from(holds));
@@ -559,7 +559,7 @@ impl<T: Translate> Play<T> {
         answers.iter().all(|a0| self.answers_next(*a0))
     }
 
-    // Whether they do, and leave so many frames free.
+    // Whether they do, and each leaves that many frames free.
     fn answers_and_leaves(&mut self, answers: &[(u64, u32)]) -> bool {
         for (a0, free) in answers {
             if !self.answers_next(*a0) || self.machine.free_frames() != *free {
@@ -635,8 +635,8 @@ pub(crate) fn holds_at(rt: &impl Abort, row: usize, holds: bool) {
     assert!(rt; holds, "row {row}");
 }
 
-// All acts of a case go as they say: else its name is told with the number of the act that doesn't, and how many calls
-// were answered as they should be before.
+// All acts of a case go as they say.
+// Else prints its name, the number of the act that doesn't, and how many calls returned what they should before it.
 fn none_wrong(rt: &impl Abort, name: &str, wrong: Option<usize>, answered: usize) {
     if let Some(act) = wrong {
         assert!(rt; false, "{name}: act {act}, behind {answered} answers");

@@ -81,7 +81,7 @@ const SIX: [u32; 18] = [
     0x0000_006f, // jal  zero, 0
 ];
 
-// 64 forks, of which the last finds no place, and then 64 processes that count for ever.
+// 64 forks, of which the last finds no free slot, and then 64 processes that count for ever.
 const CROWD: [u32; 8] = [
     0x0400_0293, // addi t0, zero, 64
     0x0010_0893, // addi a7, zero, 1

@@ -91,8 +91,8 @@ static LEFT: [Left; 4] = [
         names: &[CONSOLE],
         used: FLAT,
     },
-    // The names stand behind the calls. Each byte is as the maker of images has it, also the numbers of a file that is
-    // no device.
+    // The names follow the calls.
+    // Each byte is as the maker of images has it, also the numbers of a file that is no device.
     Left {
         run: Case {
             name: "the disk has what was made",
@@ -118,7 +118,7 @@ static LEFT: [Left; 4] = [
     },
 ];
 
-// After a run over this translator its machine leaves this image, in which so much is in use.
+// After a run over this translator its machine leaves this image, with that many inodes and blocks in use.
 fn leaves_over<T: Translate>(
     rt: &(impl Abort + AllocGlobal),
     left: &Left,

@@ -53,7 +53,7 @@ impl Lane {
         self.machine.step(event, &mut self.out)
     }
 
-    // So many steps, each by itself.
+    // `steps` steps, each by itself.
     fn singly(&mut self, steps: u32) -> Result<(), Halt> {
         for _step in 0..steps {
             self.event(Event::Step)?;
@@ -61,7 +61,7 @@ impl Lane {
         Ok(())
     }
 
-    // So many steps, in pieces of so many.
+    // `steps` steps, in pieces of `size`.
     fn in_pieces(&mut self, steps: u32, size: u32) -> Result<(), Halt>
         requires { 0 < size }
     {
@@ -81,7 +81,7 @@ impl Lane {
     }
 }
 
-// Whether two machines go alike, of which the second does its steps in pieces of so many.
+// Whether two machines go alike, of which the second does its steps in pieces of `size`.
 fn go_alike(one: &mut Lane, other: &mut Lane, size: u32) -> bool
     requires { 0 < size }
 {
@@ -164,7 +164,8 @@ const COURSES: [Course; 4] = [
     (STUMBLES, 2, -1, &[1, 2, 3, 9]),
 ];
 
-// What two machines answer so many steps, of which the second does them at once. `None`: they differ behind them.
+// What two machines return for `steps` steps, which the second does at once.
+// `None`: they differ after them.
 fn both_answer(one: &mut Lane, other: &mut Lane, steps: u32) -> Option<Result<(), Halt>> {
     let single = one.singly(steps);
     let many = other.machine.steps(steps, &mut other.out);
@@ -172,7 +173,7 @@ fn both_answer(one: &mut Lane, other: &mut Lane, steps: u32) -> Option<Result<()
     (alike && one.machine.digest() == other.machine.digest()).then_some(single)
 }
 
-// Whether so many steps of a program are answered so, and those at once are as many events, and so again behind a tick.
+// Whether `steps` steps of a program return this answer, and do the same at once as event by event, also after a tick.
 fn are_events(alloc: Global, program: &[u8], steps: u32, answer: Result<(), Halt>) -> Option<bool> {
     let (mut one, mut other) = (Lane::of(alloc, program)?, Lane::of(alloc, program)?);
     let first = both_answer(&mut one, &mut other, steps)?;
@@ -202,8 +203,7 @@ fn steps_end_at_any_place(rt: HostRuntime) {
     }
 }
 
-// What so many steps of a program that says `hi` are answered, at a console that takes so many bytes, and what as many
-// more are.
+// What `steps` steps of a program that says `hi` return at a console that takes `room` bytes, and what as many more do.
 fn answers(alloc: Global, room: usize, steps: u32) -> Option<(Result<(), Halt>, Result<(), Halt>)> {
     let mut machine = boot_flat_with(alloc, &BYTES, Plain::new(), 64).ok()?;
     let mut out = narrow_console(alloc, room);

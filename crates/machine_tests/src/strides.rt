@@ -12,8 +12,8 @@ use unixmodel::event::Event;
 // More strides than the program takes.
 const STRIDES: u32 = 1000;
 
-// How many steps a program that says `hi` takes at a console that takes so many bytes, and how it ends: each time as
-// many as go in one, at most so many.
+// How many steps a program that says `hi` takes at a console that takes `room` bytes, and how it ends.
+// Each stride does as many steps as go at once, at most `most`.
 fn by_strides(alloc: Global, room: usize, most: u32) -> Option<(u32, Halt)>
     requires { 0 < most }
 {
@@ -54,7 +54,7 @@ fn strides_are_as_many_steps(rt: HostRuntime) {
     }
 }
 
-// What a machine answers whose process waits for a key, and then one that had stopped.
+// What a machine returns whose process waits for a key, and then one that has stopped.
 fn still(alloc: Global) -> Option<bool> {
     const CALLS: [[u64; 4]; 1] = [[0, 0x2000, 10, READ]];
     let bytes = Program::Calls(&CALLS).bytes(alloc).ok()?;

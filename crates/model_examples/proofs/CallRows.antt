@@ -131,7 +131,7 @@ console : record {
   many_echoed : many_keys.bytes ≡ replicate 128 0x61;
   many_wait : mode_at (ask many_keys.state 0 (read 0 8192 200)).state 0
       ≡ Some (Waiting (record { number = Read; args = 0 ∷ 8192 ∷ 200 ∷ []; done = 128; since = 0 }));
-  -- x and ^D: a read of 10 answers 1, the next 0
+  -- x and ^D: a read of 10 returns 1, the next 0
   end_of_input : answers_to (typed (0x78 ∷ 4 ∷ [])).state (read 0 8192 10 ∷ read 0 8192 10 ∷ []) ≡ 1 ∷ 0 ∷ [];
   end_echoed : (typed (0x78 ∷ 4 ∷ [])).bytes ≡ 0x78 ∷ 4 ∷ [];
   not_at_once : bytes_in (run reading (keys (0x61 ∷ 0x0a ∷ []))).state 0 8192 2 ≡ 0 ∷ 0 ∷ [];
@@ -156,7 +156,7 @@ console = record {
 abbrev size_and_pages : State → ℕ × ℕ
 size_and_pages s = elim (process_at s 0) [ None ↦ (0, 0) | Some p ↦ (p.size, length p.memory) ]
 
--- what each call answers, the free frames after it, and the size and the pages of process 1
+-- what each call returns, the free frames after it, and the size and the pages of process 1
 abbrev told_by_each : State → List Asked → List (ℕ × ℕ × ℕ × ℕ)
 told_by_each s cs = map (λ t. (answer_at t 0, free_frames t, (size_and_pages t).0, (size_and_pages t).1))
     (states_of s cs)
@@ -261,7 +261,8 @@ grandchild =
     let two = (ask one 1 fork).state in
     (ask two 1 (exit 0)).state
 
--- process 1 waits; its child, whose next word is 0, is picked and killed by it; then process 1 is picked, and answers
+-- process 1 waits; its child, whose next word is 0, is picked and killed by it; then process 1 is picked, and wait
+-- returns
 abbrev waiting : State
 waiting = ask_all (flat_state 256) (fork ∷ wait 8200 ∷ [])
 
@@ -329,7 +330,7 @@ kill_sleep_and_turn = record {
 
 -- ---- small cases of writes to the console and to files
 
--- a flat disk with a file f of some bytes, and so many data blocks
+-- a flat disk with a file f of some bytes, and this limit of data blocks
 abbrev with_f : State → List ℕ → ℕ → State
 with_f s bytes limit = record s {
   files = put (unwrap_or (enter s.files (record { directory = 1; name = codes "f" }) 3) []) 3 (File 1 bytes);
@@ -345,23 +346,23 @@ at_offset s offset = record (change_process s 0 (λ p. with_descriptor p 3 1)) {
 abbrev write_one : Asked
 write_one = plain 16 (3 ∷ 8192 ∷ 1 ∷ [])
 
--- a file of so many bytes behind which one more is written, where so many blocks are free: the root takes one
+-- a file of `size` bytes to which one more is written, where `free` blocks are free: the root takes one
 abbrev with_free : ℕ → ℕ → State
 with_free size free = at_offset (with_f (flat_state 256) (zeros size) (1 + blocks_for size + free)) size
 
 -- ---- the console is open as descriptors 0, 1 and 2
 
--- a write of so many bytes to a descriptor, from an address on; the text stands at 8192
+-- a write of `count` bytes to a descriptor, from an address on; the text is at 8192
 abbrev write_text : String → ℕ → ℕ → ℕ → Asked
 write_text text descriptor address count =
     record { number = 16; path = codes text; other = []; args = descriptor ∷ address ∷ count ∷ [] }
 
--- what the call answers, and the bytes that it gives the console
+-- what the call returns, and the bytes that it gives the console
 abbrev answered : Asked → ℕ × List ℕ
 answered c = let after = ask (flat_state 64) 0 c in (answer_at after.state 0, after.bytes)
 
 writes : record {
-  -- the blocks of a file of so many bytes, with its index blocks
+  -- the blocks of a file of that many bytes, with its index blocks
   file_blocks : map blocks_for (11264 ∷ 11265 ∷ 273408 ∷ 273409 ∷ 535552 ∷ 535553 ∷ 67382272 ∷ []) ≡ 11 ∷ 13 ∷ 268
       ∷ 271 ∷ 526 ∷ 528 ∷ 66061 ∷ [];
   blocks_free : map (λ (g : ℕ × ℕ). answers_to (with_free g.0 g.1) (write_one ∷ []))

@@ -1,4 +1,4 @@
--- The names that the lemmas of this crate import from elsewhere, passed on from one place. Declares nothing.
+-- The names that the lemmas of this crate import from other crates, passed on here. Declares nothing.
 pub use Prim.Native.String.{String}
 pub use Rattle.std.specs.List.{range_with_len}
 pub use Rattle.unixmodel.specs.Calls.{After, quiet, settle, call}

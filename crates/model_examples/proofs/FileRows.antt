@@ -26,7 +26,7 @@ use Rattle.std.proofs.lemmas.List.Sums.{AllPass-from_list_all}
 use Rattle.unixmodel.specs.Files.{Node, dot, dot_dot, Entry, Files, links_of, node_bytes, size_of, slot, taken, find}
 use Rattle.unixmodel.specs.Formats.{large}
 
--- a call by its row: its path stands at 8192, a second one at 8448
+-- a call by its row: its path is at 8192, a second one at 8448
 abbrev Named : Type 0
 Named = (State → ℕ → Process → Outcome) × Asked
 
@@ -99,7 +99,7 @@ made_and_closed letter = open_at (letter ∷ []) made ∷ close_of 3 ∷ []
 abbrev four_made : State
 four_made = after_all at_first (flat_map made_and_closed (range_with_len 0x61 4))
 
--- a disk with so many files
+-- a disk with n files
 abbrev filled : ℕ → State
 filled n = record at_first
     { files = take 3 at_first.files ++ replicate n (Some (File 1 [])) ++ replicate (13 - n) None }
@@ -222,7 +222,7 @@ of_bytes = record {
 abbrev told : ℕ → ℕ → ℕ → Option Stat
 told kind links size = Some (record { kind = kind; links = links; size = size })
 
--- the three places of the root
+-- the three entries of the root
 abbrev root_bytes : List ℕ
 root_bytes =
     (1 ∷ 0 ∷ codes "." ++ replicate 13 0) ++ (1 ∷ 0 ∷ codes ".." ++ replicate 12 0)
@@ -233,11 +233,11 @@ abbrev with_file : State
 with_file = after_all at_first (open_path "f" 0x202 ∷ write_of "hi" 3 2 ∷ [])
 
 shown : record {
-  -- the root with three places, the console, a number that is free, and numbers that no inode has
+  -- the root with three entries, the console, a number that is free, and numbers that no inode has
   at_boot : map (shown_stat at_first) (0 ∷ 1 ∷ 2 ∷ 3 ∷ 15 ∷ 16 ∷ 1000 ∷ [])
       ≡ None ∷ told 1 1 48 ∷ told 3 1 0 ∷ None ∷ None ∷ None ∷ None ∷ [];
   whole_root : shown_bytes at_first 1 0 1000 ≡ root_bytes;
-  -- from a place on, as many as are asked for and are there
+  -- from an offset on, as many as are asked for and are there
   parts_of_root : map (λ at. shown_bytes at_first 1 at 4) (0 ∷ 16 ∷ 32 ∷ 46 ∷ 48 ∷ 1000 ∷ [])
       ≡ (1 ∷ 0 ∷ 0x2e ∷ 0 ∷ []) ∷ (1 ∷ 0 ∷ 0x2e ∷ 0x2e ∷ []) ∷ (2 ∷ 0 ∷ 0x63 ∷ 0x6f ∷ []) ∷ (0 ∷ 0 ∷ []) ∷ [] ∷ [] ∷ [];
   -- a device has no bytes, nor has a number that names nothing
@@ -304,7 +304,7 @@ numbers_and_names : record {
   -- no parent, one that is a file, and a name twice
   faults : map small ((dir "/a/b" ∷ []) ∷ (file "/a" 1 ∷ dir "/a/b" ∷ []) ∷ (dir "/a" ∷ file "/a" 0 ∷ []) ∷ [])
       ≡ Err Parent ∷ Err Parent ∷ Err Twice ∷ [];
-  -- the parent is told before the name that is there already, and that before the numbers that are left
+  -- the missing parent is reported before the name that is there already, and that before the lack of numbers
   order : map small ((dir "/a" ∷ dir "/b/a" ∷ dir "/a" ∷ []) ∷ (letters 14 ++ dir "/a" ∷ []) ∷ []) ≡ Err Parent
       ∷ Err Twice ∷ [];
 }
@@ -414,7 +414,7 @@ console_stands (suc (suc zero)) low high =
     record { kind = refl; links = refl; size = refl; contents = refl; major = (refl, refl) }
 console_stands _ low high = refl
 
--- what holds of all places of a list holds of each
+-- what holds of all indices of a list holds of each
 same-at : {A : Type 0} (f g : ℕ → A) (from n k : ℕ) → map f (range_with_len from n) ≡ map g (range_with_len from n)
     → from ≤ k → k < from + n → f k ≡ g k
 same-at f g from n k all low high =
@@ -445,7 +445,7 @@ spare_direct count k few s single double =
     let low : k < 11 = grind (arith, nat_tests) in
     (grind (arith, nat_tests), low)
 
--- so what is 0 at those places is 0 at each spare one
+-- so what is 0 at those indices is 0 at each spare one
 at_places : (count : ℕ) (number : ℕ → ℕ) → count ≤ 11 → number 65803 ≡ 0 → number 65804 ≡ 0
     → ((k : ℕ) → count ≤ k → k < 11 → number k ≡ 0) → (k : ℕ) → IsSpare large count k → number k ≡ 0
 at_places count number few single double direct k s = elim (cases_eq k 65803) [

@@ -186,7 +186,7 @@ immediate_cases Ori = (0x40, 1, 0x41) ∷ (minus_one, 0, minus_one) ∷ (0xce5af
 immediate_cases Andi = (0xdeadbeefcafebabe, 0x7ff, 0x2be) ∷ (0, 0xfff, 0) ∷ (0x3f, 0x800, 0)
     ∷ (0xffffffff, 0x1b3, 0x1b3) ∷ (0xa81100a16ea330a1, 0xfff, 0xa81100a16ea330a1) ∷ []
 
--- by so many bits
+-- a number, how many bits it is shifted by, and the result
 abbrev shift_cases : Cases ShiftOp
 shift_cases shift.Sll = (0xf86664ae64a149f5, 63, lowest) ∷ (0x3f, 1, 0x7e)
     ∷ (0x123456789abcdef0, 1, 0x2468acf13579bde0) ∷ []

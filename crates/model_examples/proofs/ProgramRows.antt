@@ -54,7 +54,7 @@ hi_and_empty = record { hi_start = refl; hi_turn = refl; hi_steps = refl; hi_tic
 
 -- ---- accesses that are refused: each ends the process with -1
 
--- after so many steps: what the next instruction raises, and the status once one more step is done
+-- after `steps` steps: what the next instruction raises, and the status once one more step is done
 abbrev next_trap : List ℕ → ℕ → Option Trap
 next_trap program steps =
     option_and_then (λ (p : Process). trap_of (effect_of p))
@@ -124,7 +124,7 @@ init_files = None ∷ Some
     ∷ Some (File 1 (elf_file hi_program)) ∷ replicate 13 None
 
 plans : record {
-  -- /init of one page: its argument stands at 12272, and the pointers at 12256
+  -- /init of one page: its argument is at 12272, and the pointers at 12256
   init_numbers : option_map numbers_of (plan (elf_file hi_program) (init_path ∷ []))
       ≡ Some (3 ∷ 12288 ∷ 0 ∷ 1 ∷ 12256 ∷ []);
   init_stack : option_map (λ (new : Plan). read_bytes new.memory 12256 22) (plan (elf_file hi_program) (init_path ∷ []))

@@ -9,7 +9,7 @@ use Rattle.std.specs.Fmt.{digits}
 use Rattle.unixmodel.specs as m
 use Rattle.unixmodel.specs.NameCalls as names
 
--- a call: its number, a path that stands at 8192, one that stands at 8448, and its arguments
+-- a call: its number, a path that is at 8192, one that is at 8448, and its arguments
 pub record Asked : Type 0 where
   pub number : ℕ
   pub path : List ℕ

@@ -194,7 +194,7 @@ module _ (m : Ram) {v : Ram} (is : map sized m ≡ v) where
 pub length-zeros : length (replicate {A = ℕ} 4096 0) ≡ 4096
 length-zeros = length-replicate {A = ℕ} 4096 0
 
--- after a write of bs and what followed them to the part of a frame from place a
+-- after a write of bs and what followed them to the part of a frame from offset a
 pub put-view : (m v : Ram) (f a : ℕ) (q r part bs : List ℕ) → map sized m ≡ v → f < length v → q ≡ get_or m f q
     → r ≡ get_or m f r → length q ≡ 4096 → a + length bs ≤ 4096
     → part ≡ bs ++ drop (length bs) (take (4096 - a) (drop a r))
@@ -302,7 +302,7 @@ pub record IsWritten (n : ℕ) (frame bytes : List ℕ) : Type 0 where
   pub size : length frame ≡ 4096
   pub begins : take (n * 64) frame ≡ take (n * 64) bytes
 
--- what lies before the end of a vector that is stored at a place
+-- what lies before the end of a vector that is stored at an offset
 part-stored : (a k m : ℕ) (xs ys : List ℕ) → length ys ≡ k → a + k ≤ length xs → m ≡ a + k
     → take m (put_mid a k xs (put_chunk 0 (mid_of a k xs) ys)) ≡ take a xs ++ ys
 part-stored a k m xs ys size fits end =

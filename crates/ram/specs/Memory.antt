@@ -7,7 +7,7 @@ use Rattle.byteorder.specs.Endian.{little_number, little_bytes}
 abbrev pub frame_of : List (List ℕ) → ℕ → List ℕ
 frame_of m f = slice_index_or m f []
 
--- the bytes with those from place o on replaced by bs
+-- the bytes with those from offset o on replaced by bs
 unfoldable pub put_bytes : List ℕ → ℕ → List ℕ → List ℕ
 put_bytes xs o bs = take o xs ++ (bs ++ drop (o + length bs) xs)
 
@@ -15,12 +15,12 @@ put_bytes xs o bs = take o xs ++ (bs ++ drop (o + length bs) xs)
 unfoldable pub word_bytes : ℕ → ℕ → List ℕ
 word_bytes n x = little_bytes n x
 
--- the memory with the bytes from place o of frame f on replaced by bs
+-- the memory with the bytes from offset o of frame f on replaced by bs
 -- (a frame past the end is not written)
 unfoldable pub put : List (List ℕ) → ℕ → ℕ → List ℕ → List (List ℕ)
 put m f o bs = slice_set m f (put_bytes (frame_of m f) o bs)
 
--- the number in the n bytes from place o of frame f, the lowest first
+-- the number in the n bytes from offset o of frame f, the lowest first
 unfoldable pub word_of : List (List ℕ) → ℕ → ℕ → ℕ → ℕ
 word_of m f o n = little_number n (drop o (frame_of m f))
 

@@ -1,7 +1,8 @@
 //! Physical memory: a list of frames of 4096 bytes.
 //!
-//! A frame is named by its number, from 0 on, and a byte by its place in the frame. A number in memory
-//! stands with its lowest byte first, as RISC-V has it. Only `Ram::new` and `Ram::duplicate` take memory of the host.
+//! A frame is named by its number, from 0 on, and a byte by its offset in the frame.
+//! A number in memory has its lowest byte first, as in RISC-V.
+//! Only `Ram::new` and `Ram::duplicate` take memory of the host.
 #![tactic(auto)]
 
 ghost use Rattle.std.specs.Prelude.{◌≡◌, ◌≢◌, ℕ, ◌+◌, ◌*◌, ◌^◌, ◌<◌, ◌≤◌, List, length, replicate, slice_set};
@@ -61,7 +62,7 @@ fn zeros() -> [u8; FRAME_SIZE]
     [0; FRAME_SIZE]
 }
 
-// So many frames that hold nothing. All their memory is asked for at once.
+// `n` frames of zeros. All their memory is asked for at once.
 fn zero_frames(alloc: Global, n: u32) -> Result<Vec<[u8; FRAME_SIZE]>, AllocError>
     ensures { IfOk result (λ frames. frames.items ≡ replicate n (replicate 4096 0)) }
 {
@@ -72,7 +73,7 @@ fn zero_frames(alloc: Global, n: u32) -> Result<Vec<[u8; FRAME_SIZE]>, AllocErro
     Ok(frames)
 }
 
-// Copies `len` bytes of a frame, from place `i` on, to place `j` of another.
+// Copies `len` bytes of a frame, from offset `i` on, to offset `j` of another.
 #[inline]
 fn copy_bytes(from: &[u8; FRAME_SIZE], i: usize, to: &mut [u8; FRAME_SIZE], j: usize, len: usize)
     requires i { i + len ≤ 4096 }
@@ -196,7 +197,7 @@ impl Ram {
         &mut self.frames[f.0 as usize]
     }
 
-    /// The number of 1 byte at place `at` of a frame.
+    /// The number of 1 byte at offset `at` of a frame.
     #[inline]
     #[tactic(auto, unfolding(crate::specs::Memory::word_of))]
     pub fn load_u8(&self, f: FrameNo, at: usize) -> u8
@@ -207,7 +208,7 @@ impl Ram {
         self.frame(f)[at]
     }
 
-    /// The number of 2 bytes at place `at` of a frame.
+    /// The number of 2 bytes at offset `at` of a frame.
     #[inline]
     #[tactic(auto, unfolding(crate::specs::Memory::word_of))]
     pub fn load_u16(&self, f: FrameNo, at: usize) -> u16
@@ -219,7 +220,7 @@ impl Ram {
         LittleEndian::read_u16(&frame[at..])
     }
 
-    /// The number of 4 bytes at place `at` of a frame.
+    /// The number of 4 bytes at offset `at` of a frame.
     #[inline]
     #[tactic(auto, unfolding(crate::specs::Memory::word_of))]
     pub fn load_u32(&self, f: FrameNo, at: usize) -> u32
@@ -231,7 +232,7 @@ impl Ram {
         LittleEndian::read_u32(&frame[at..])
     }
 
-    /// The number of 8 bytes at place `at` of a frame.
+    /// The number of 8 bytes at offset `at` of a frame.
     #[inline]
     #[tactic(auto, unfolding(crate::specs::Memory::word_of))]
     pub fn load_u64(&self, f: FrameNo, at: usize) -> u64
@@ -243,7 +244,7 @@ impl Ram {
         LittleEndian::read_u64(&frame[at..])
     }
 
-    /// Puts a number as 1 byte at place `at` of a frame.
+    /// Puts a number as 1 byte at offset `at` of a frame.
     #[inline]
     pub fn store_u8(&mut self, f: FrameNo, at: usize, x: u8)
         requires frame { f.0 < length self.old }
@@ -255,7 +256,7 @@ impl Ram {
         frame[at] = x;
     }
 
-    /// Puts a number as 2 bytes at place `at` of a frame.
+    /// Puts a number as 2 bytes at offset `at` of a frame.
     #[inline]
     pub fn store_u16(&mut self, f: FrameNo, at: usize, x: u16)
         requires frame { f.0 < length self.old }
@@ -267,7 +268,7 @@ impl Ram {
         LittleEndian::write_u16(&mut frame[at..], x);
     }
 
-    /// Puts a number as 4 bytes at place `at` of a frame.
+    /// Puts a number as 4 bytes at offset `at` of a frame.
     #[inline]
     pub fn store_u32(&mut self, f: FrameNo, at: usize, x: u32)
         requires frame { f.0 < length self.old }
@@ -279,7 +280,7 @@ impl Ram {
         LittleEndian::write_u32(&mut frame[at..], x);
     }
 
-    /// Puts a number as 8 bytes at place `at` of a frame.
+    /// Puts a number as 8 bytes at offset `at` of a frame.
     #[inline]
     pub fn store_u64(&mut self, f: FrameNo, at: usize, x: u64)
         requires frame { f.0 < length self.old }
@@ -310,7 +311,7 @@ impl Ram {
         }
     }
 
-    /// Copies `len` bytes of a frame, from place `i` on, to place `j` of another one.
+    /// Copies `len` bytes of a frame, from offset `i` on, to offset `j` of another one.
     #[inline]
     pub fn copy_part(&mut self, from: FrameNo, i: usize, to: FrameNo, j: usize, len: usize)
         requires from { from.0 < length self.old }

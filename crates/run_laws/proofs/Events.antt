@@ -1,4 +1,4 @@
--- What an event leaves in the place of a process that doesn't run, and which place was picked last after it.
+-- What an event leaves in the slot of a process that doesn't run, and which slot was picked last after it.
 use Rattle.run_laws.proofs.Common.{cases_eq, cases_lt, range_with_len, same_Some, State, place_limit, Call, Pending}
 use Rattle.run_laws.proofs.Common.{Done, Ends, Refused, Waits, Process, arg, with_answer, with_mode, change_process}
 use Rattle.run_laws.proofs.Common.{process_at, put_process, position-Some, Event, Key, Step, Tick, is_running, holds}
@@ -22,9 +22,9 @@ use Rattle.run_laws.proofs.Others.{end-spares, reap-spares, Passes, Spares, by-t
 use Rattle.run_laws.proofs.Others.{same-passed, spares-all, spares-own, spares-passes, Yields, yields-limited}
 use Rattle.run_laws.proofs.Table.{goes-on-yields, row-yields}
 
--- ---- a turn as a way round the places: how far a place is from another
+-- ---- a turn as a way round the slots: how far a slot is from another
 
--- how many places a turn goes on from place l until it comes to place i: 1 to 64
+-- how many slots a turn goes on from slot l until it comes to slot i: 1 to 64
 abbrev pub distance : ℕ → ℕ → ℕ
 distance i l = (i + 63 - l) % 64 + 1
 
@@ -69,7 +69,7 @@ turned : (s : State) (j : ℕ) → turn s ≡ Some j → Found (ready s) (λ k. 
 unfolding turn round_from
 turned s j picked = found (ready s) (λ k. (s.last + k) % 64) 1 64 j picked
 
--- The place that is picked where another one is ready is nearer than that.
+-- The slot that is picked where another one is ready is nearer than that.
 pub picked-nearer : (s : State) (i j : ℕ) → s.last < place_limit → i < place_limit → turn s ≡ Some j → ready s i ≡ true
     → j ≢ i → (distance i j < distance i s.last) × (j < place_limit)
 picked-nearer s i j last place picked is other =
@@ -91,17 +91,17 @@ picked-nearer s i j last place picked is other =
         → (distance i j < distance i l) × (j < 64)
     nearer l i m j a b c d e f = (omega arith, omega arith)
 
--- the place that is picked is ready
+-- the slot that is picked is ready
 pub turn-ready : (s : State) (j : ℕ) → turn s ≡ Some j → ready s j ≡ true
 turn-ready s j picked = let first = turned s j picked in ap (ready s) (sym first.is) ∙ first.passes
 
--- the place that is picked is one of the 64
+-- the slot that is picked is one of the 64
 pub turn-place : (s : State) (j : ℕ) → turn s ≡ Some j → j < place_limit
 turn-place s j picked =
     let first = turned s j picked in
     let at : (s.last + first.number) % 64 ≡ j = first.is in omega arith
 
--- ---- what a call, an end and an instruction leave in the places of other processes
+-- ---- what a call, an end and an instruction leave in the slots of other processes
 
 spares-refl : (r : ℕ) (s : State) → Spares r s s
 spares-refl r s = spares-all refl refl
@@ -178,8 +178,8 @@ module _ (s : State) (r : ℕ) (p : Process) where
       by-test (λ (a : After). Passes r s a.state) p.killed (quiet (end_process s r p (negsuc 0)))
       (picked_in s r p p.mode) (end-passes (negsuc 0)) (picked-in-passes p.mode)
 
--- An event that picks this place, or none: that is the place picked last then, and processes that don't run and aren't
--- picked are left.
+-- An event that picks this slot, or none: it is the slot picked last then.
+-- Processes that don't run and aren't picked are left.
 pub record Takes (s : State) (at : Option ℕ) (t : State) : Type 0 where
   pub last : t.last ≡ unwrap_or at s.last
   pub left : (i : ℕ) (p : Process) → process_at s i ≡ Some p → is_running p ≡ false → at ≢ Some i

@@ -1,4 +1,4 @@
--- What a step of the process in one place leaves in the others.
+-- What a step of the process in one slot leaves in the others.
 use Rattle.run_laws.proofs.Common.{get_or-set_other, slot, Process, is_zombie, State, process_at, IsLeft, Rests}
 use Rattle.run_laws.proofs.Common.{is_child_of, Done, Ends, Refused, Waits, Files, OpenFile}
 use Rattle.std.proofs.Common.{ap, Bool, false, List, map, None, Option, refl, set, Some, subst, sym, true, ℕ, ℤ, ◌∙◌}
@@ -10,13 +10,13 @@ use Rattle.unixmodel.specs.Reap.{reap, without_nodes, without_opens, without_pip
 use Rattle.std.proofs.Math.ListN.{get_or-map}
 use Rattle.unixmodel.specs.Console.{Console}
 
--- the process of a place stays, as far as others can't change it; and a free place stays free
+-- the process of a slot stays, as far as others can't change it; and a free slot stays free
 abbrev pub IsSame : Option Process → Option Process → Type 0
 IsSame (Some p) (Some q) = Rests p q
 IsSame None None = Unit {0}
 IsSame _ _ = ⊥
 
--- or a free place gets a process, or a zombie goes
+-- or a free slot gets a process, or a zombie goes
 abbrev pub IsPassed : Option Process → Option Process → Type 0
 IsPassed None o = Unit {0}
 IsPassed (Some p) o = IsLeft p o
@@ -53,7 +53,7 @@ passed-same (Some p) (Some q) (Some r) first second = rests-then p q r first sec
 
 -- ---- states
 
--- what a step of the process in place r leaves of each other place
+-- what a step of the process in slot r leaves of each other slot
 pub record Leaves (Stays : Option Process → Option Process → Type 0) (r : ℕ) (s t : State) : Type 0 where
   pub last : t.last ≡ s.last
   pub others : (i : ℕ) → i ≢ r → Stays (process_at s i) (process_at t i)
@@ -78,7 +78,7 @@ pub spares-passes : {r : ℕ} {s t : State} → Spares r s t → Passes r s t
 spares-passes {t} spares =
     leaves-then same-passed spares (record { last = refl; others = λ i apart. passed-refl (process_at t i) })
 
--- only its own place is written
+-- only its own slot is written
 pub spares-own : {r : ℕ} {s t : State} (o : Option Process) → t.places ≡ set s.places r o → t.last ≡ s.last
     → Spares r s t
 spares-own {r} {s} {t} o places last = record {
@@ -120,7 +120,7 @@ end-spares s r p status = reap-spares (record {
       (orphaned-same p.pid (process_at s i));
 })
 
--- ---- what the outcome of a call leaves in the places of other processes, however the row comes to it
+-- ---- what the outcome of a call leaves in the slots of other processes, however the row comes to it
 
 -- the state that an outcome makes
 abbrev pub Yields : ℕ → State → Outcome → Type 0
@@ -155,7 +155,7 @@ passes-all r s t places last = spares-passes (spares-all places last)
 pub passes-refl : (r : ℕ) (s : State) → Passes r s s
 passes-refl r s = passes-all r s s refl refl
 
--- a state with one of its places written, whatever else is new
+-- a state with one of its slots written, whatever else is new
 pub passes-put : (r : ℕ) (s : State) (o : Option Process) (files : Files) (opens : List (Option OpenFile))
     (pipes : List (Option (List ℕ))) (console : Console)
     (ticks next_pid frame_limit block_limit : ℕ) (halted : Option ℤ)

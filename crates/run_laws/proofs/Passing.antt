@@ -1,4 +1,4 @@
--- A run in which a place is passed over picks places that come ever nearer to it.
+-- A run in which a slot is passed over picks slots that come ever nearer to it.
 use Rattle.run_laws.proofs.Common.{All, Event, Key, Step, Tick, State, place_limit, running, cond_some, Files, Process}
 use Rattle.run_laws.proofs.Common.{is_running, process_at, IsLeft, Rests}
 use Rattle.run_laws.specs.Resting.{IsLetBe}
@@ -19,12 +19,12 @@ use Rattle.unixmodel.specs.Plan.{Plan, plan_flat}
 use Rattle.unixmodel.specs.Start.{if_fits, init_plan, start, start_flat}
 use Rattle.run_laws.proofs.Others.{rests-then}
 
--- each of the places is nearer to place i than the one before it, and the first nearer than n
+-- each of the slots is nearer to slot i than the one before it, and the first nearer than n
 unfoldable pub Nears : ℕ → ℕ → List ℕ → Type 0
 Nears i n [] = Unit {0}
 Nears i n (j ∷ js) = (distance i j < n) × Nears i (distance i j) js
 
--- a place that an event picks is found by a turn
+-- a slot that an event picks is found by a turn
 pub picked-turn : (s : State) (e : Event) (j : ℕ) → picked_by s e ≡ Some j → turn s ≡ Some j
 picked-turn s Step j is = unless (running s) is
   where
@@ -62,7 +62,7 @@ nears-run i s (e ∷ events) last place over =
     (next-takes s e).last last place (picked-turn s e) over.0 over.1
     (λ inside later. nears-run i t events inside place later)
 
--- ---- places that come nearer are different, and few
+-- ---- slots that come nearer are different, and few
 
 nearer-all : (i n : ℕ) (js : List ℕ) → Nears i n js → All (λ j. distance i j < n) js
 unfolding Nears
@@ -99,9 +99,9 @@ waits-bounded s i events last place over =
     nears-few i (distance i s.last) (turns s events) nears (omega arith) in
     record { none_twice = nears-distinct i (distance i s.last) (turns s events) nears; few = omega (arith, few) }
 
--- ---- the place that was picked last is one of the 64, and a process that is let be stays
+-- ---- the slot that was picked last is one of the 64, and a process that is let be stays
 
--- ---- the place that was picked last
+-- ---- the slot that was picked last
 
 started : (make : Plan → State) (o : Option Plan) (s : State) → ((new : Plan) → (make new).last ≡ 63)
     → option_and_then (λ new. if_fits (make new)) o ≡ Some s → s.last < place_limit
@@ -145,7 +145,7 @@ run-last s (e ∷ events) last =
 
 -- ---- a process that is let be
 
--- what stays of a process is still in its place
+-- what stays of a process is still in its slot
 abbrev Stays : Process → State → ℕ → Type 0
 Stays p t i = (q : Process) × (process_at t i ≡ Some q) × Rests p q
 

@@ -1,4 +1,4 @@
--- What the table of calls leaves in the places of other processes, whether a call is served or refused for now.
+-- What the table of calls leaves in the slots of other processes, whether a call is served or refused for now.
 use Rattle.run_laws.proofs.Common.{and_parts, cases_eq, same_Some, get_or-set_other, position-Some, Pending, Node}
 use Rattle.run_laws.proofs.Common.{clear, free_slot, put, slot, Process, is_child_of, is_zombie, State, change_process}
 use Rattle.run_laws.proofs.Common.{holds, process_at, OpenFile, Target, Call}
@@ -20,10 +20,10 @@ use Rattle.unixmodel.specs.declared.call.Call.TheVariants.{Uptime, Wait, Write}
 use Rattle.unixmodel.specs.Outcome.{pending_of, Outcome}
 use Rattle.unixmodel.specs.NameCalls.{chdir_row, link_row, mkdir_row, mknod_row, open_row, unlink_row}
 
--- ---- what the rows of the calls leave in the places of other processes, where a search needs more than what outcomes
--- are made of
+-- ---- what the rows of the calls leave in the slots of other processes, where a search needs more than what
+-- outcomes are made of
 
--- ---- fork: a free place is filled
+-- ---- fork: a free slot is filled
 
 fork-passed : (places : List (Option Process)) (r j : ℕ) (q p : Process) → free_slot places ≡ Some j → (i : ℕ) → i ≢ r
     → IsPassed (slot places i) (slot (put (put places r q) j p) i)

@@ -6,12 +6,12 @@ use Rattle.unixmodel.specs.Process.{Process, is_running, is_zombie}
 use Rattle.unixmodel.specs.Run.{UnlessHalted, picked_by, run}
 use Rattle.unixmodel.specs.State.{State, process_at}
 
--- all of a process stays, its registers, pc, size and pages among it, but its parent, which may end, and the mark of a
+-- all of a process stays, with its registers, pc, size and pages, except its parent, which may end, and the mark of a
 -- kill
 abbrev pub Rests : Process → Process → Type 0
 Rests p q = q ≡ record p { parent = q.parent; killed = q.killed }
 
--- what an event leaves in a process's place: the process, or nothing where it was waited for as a zombie
+-- what an event leaves in a process's slot: the process, or nothing where it was waited for as a zombie
 abbrev pub IsLeft : Process → Option Process → Type 0
 IsLeft p None = is_zombie p ≡ true
 IsLeft p (Some q) = Rests p q
@@ -22,7 +22,7 @@ LeavesResting = (s : State) (i : ℕ) (p : Process) (e : Event) → process_at s
     → picked_by s e ≢ Some i
     → IsLeft p (process_at (next s e).state i)
 
--- no event of the run, which ends where it halts, picks the process in place i or takes it away
+-- no event of the run, which ends where it halts, picks the process in slot i or takes it away
 unfoldable pub IsLetBe : ℕ → State → List Event → Type 0
 IsLetBe i s [] = ⊤
 IsLetBe i s (e ∷ es) =

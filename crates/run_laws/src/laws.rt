@@ -2,13 +2,13 @@
 ghost use Rattle.run_laws.specs.Resting.{KeepsResting, LeavesResting};
 ghost use Rattle.run_laws.specs.Waiting.{LastIsPlace, WaitsBounded};
 
-/// The place that was picked last is one of the 64: at the start, and after every run.
+/// The slot that was picked last is one of the 64: at the start, and after every run.
 pub fn last_is_a_place()
     ensures { LastIsPlace }
 {}
 
-/// Over a stretch of events at each of whose turns a process is ready and isn't picked, no place is picked twice: so at
-/// most 63 other turns come before its own.
+/// Over a stretch of events at each of whose turns a process is ready and isn't picked, no slot is picked twice.
+/// So at most 63 other turns come before its own.
 pub fn waiting_is_bounded()
     ensures { WaitsBounded }
 {}

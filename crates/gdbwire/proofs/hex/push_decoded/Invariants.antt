@@ -2,7 +2,7 @@ use Rattle.std.proofs.Common.{◌≡◌, ◌++◌, ◌-◌, ◌≤◌, drop, len
 use Rattle.gdbwire.specs.Hex.{bytes_of}
 use Rattle.gdbwire.proofs.hex.push_decoded.Given as goal
 
--- the bytes of the digits so far stand at the end
+-- the bytes of the digits so far are at the end
 abbrev pub invariant-loop-at : goal.invariant-loop-at
 invariant-loop-at l = record {
   within : l.at ≤ length l.digits;

@@ -17,7 +17,7 @@ asleep-other awake zero out = refl
 asleep-other awake (suc zero) out = absurd (true≢false (sym (is-woken awake) ∙ out))
 asleep-other awake (suc (suc i)) out = grind (arith, nat_tests)
 
--- each place is awake at first
+-- each slot is awake at first
 pub pick-requires-clause-awake : goal.pick-requires-clause-awake
 pick-requires-clause-awake g c i out =
     let all : c.starting_at-table.result.awake ≡ all_in 64 = rw c.starting_at-table.ensures refl in

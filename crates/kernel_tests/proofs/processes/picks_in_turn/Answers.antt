@@ -4,7 +4,7 @@ use Rattle.proc.proofs.Waiting.{all-in}
 use Rattle.proc.specs.Mask.{all_in}
 use Rattle.kernel_tests.proofs.processes.picks_in_turn.Goals as goal
 
--- each place is awake at first
+-- each slot is awake at first
 pub pick-requires-clause-awake : goal.pick-requires-clause-awake
 pick-requires-clause-awake g c i out =
     let all : c.put-3.new.self.awake ≡ all_in 64 =
