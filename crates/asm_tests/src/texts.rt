@@ -8,7 +8,7 @@ pub fn expect_row(rt: &impl Abort, text: &str, holds: bool) {
     assert!(rt; holds, "{text}");
 }
 
-// Whether these words stand behind a file's headers, and nothing else.
+// Whether these words follow a file's headers, and nothing else does.
 fn has_words(file: &[u8], words: &[u32]) -> bool {
     let Some(mut rest) = file.get(4096..) else {
         return false;
@@ -30,7 +30,7 @@ pub fn gives(alloc: Global, text: &str, words: &[u32]) -> bool {
     }
 }
 
-// Numbers that are loaded, labels that are positions, and data that is put as it stands.
+// Numbers that are loaded, labels that are offsets, and data that is put as it is.
 static GIVEN: [(&str, &[u32]); 7] = [
     ("li a7, 11\necall\n", &[0x000008b7, 0x00b88893, 0x00000073]),
     ("li a0, 2048", &[0x00001537, 0x80050513]),

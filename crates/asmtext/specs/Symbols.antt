@@ -24,7 +24,7 @@ mode_of mode.Lost string = the.Mode.Lost
 abbrev pub reader_of : Reader → the.Reader
 reader_of r = record { mode = mode_of r.mode r.string.items; symbols = map symbol_of r.symbols.items }
 
--- the character behind a backslash stands for the byte
+-- the character after a backslash stands for the byte
 abbrev pub Escapes : ℕ → ℕ → Type 0
 Escapes c byte = (bytes : List ℕ) → the.after_escape bytes c ≡ the.Mode.Inside (bytes ++ byte ∷ [])
 
@@ -41,6 +41,6 @@ part_seen part = map symbol_of part.now
 abbrev pub parts_seen : List (Bor (List Symbol)) → List (List the.Symbol)
 parts_seen parts = map part_seen parts
 
--- a number, and the register behind which it counts
+-- a number, and the register from which it counts
 abbrev pub place_seen : Number × ℕ → ℤ × ℕ
 place_seen place = (number_of place.0, place.1)

@@ -77,7 +77,7 @@ fn signed(
     }))
 }
 
-/// The number that a text writes: decimal digits, behind a minus or not, or hexadecimal ones behind 0x.
+/// The number that a text writes: decimal digits, after a minus or not, or hexadecimal ones after 0x.
 #[tactic(auto, unfolding(unixmodel::specs::Operands::number_called))]
 pub fn number_called(alloc: Global, text: &[u8]) -> Result<Option<Number>, AllocError>
     ensures { IfOk result (λ found. option_map number_of found ≡ the.number_called text.now) }

@@ -60,7 +60,7 @@ fn closed_register(text: &[u8]) -> Option<Reg>
     }
 }
 
-// A number and, in parentheses, the register behind which it counts.
+// A number and, in parentheses, the register from which it counts.
 #[tactic(auto, unfolding(unixmodel::specs::Operands::memory_called))]
 fn memory_called(alloc: Global, text: &[u8]) -> Result<Option<(Number, Reg)>, AllocError>
     ensures { IfOk result (λ found. option_map place_seen found ≡ the.memory_called text.now) }
@@ -109,7 +109,7 @@ pub fn number(alloc: Global, part: &[Symbol]) -> Result<Option<Number>, AllocErr
     number_called(alloc, &text)
 }
 
-/// A number and the register behind which it counts.
+/// A number and the register from which it counts.
 pub fn memory(alloc: Global, part: &[Symbol]) -> Result<Option<(Number, Reg)>, AllocError>
     ensures { IfOk result (λ found. option_map place_seen found ≡ the.memory (map symbol_of part.now)) }
 {

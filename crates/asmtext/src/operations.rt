@@ -25,7 +25,7 @@ pub enum NumberOp {
     ShiftW(ShiftOp),
 }
 
-/// An operation that goes to a number behind a base register.
+/// An operation at an offset from a base register.
 #[derive(Clone, Copy)]
 pub enum BaseOp {
     Load(LoadOp),
@@ -43,7 +43,7 @@ pub enum UpperOp {
 /// An operation on nothing.
 #[derive(Clone, Copy)]
 pub enum BareOp {
-    /// The fence of all accesses before it and behind it.
+    /// The fence of all accesses before it and after it.
     Fence,
     Ecall,
     Ebreak,
@@ -85,12 +85,12 @@ impl RegisterOp {
     }
 }
 
-/// An instruction but for its number.
+/// An instruction without its number.
 #[derive(Clone, Copy)]
 pub enum Partial {
     /// On a register and a number, into a register.
     Numbered(NumberOp, Reg, Reg),
-    /// A register, and the base behind which the number counts.
+    /// A register, and the base from which the number counts.
     Based(BaseOp, Reg, Reg),
     /// On a number, into a register.
     Upper(UpperOp, Reg),

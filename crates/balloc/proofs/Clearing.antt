@@ -161,7 +161,7 @@ module _ (bytes : List ℕ) (room : 64 ≤ length bytes) where
       ∙ run_in_chunk_stops is_other bytes 0 64 (run) 0 room (counted some) h in
       eqb-false (get_or bytes (run) 0) 255 (not-true (eqb (get_or bytes (run) 0) 255) other)
 
--- so many full bytes stand from byte i / 8 on
+-- n full bytes from byte i / 8 on
 pub full_set : (block : List ℕ) (i n : ℕ) → i % 8 ≡ 0 → ((k : ℕ) → k < n → get_or block (i / 8 + k) 0 ≡ 255) → (k : ℕ)
     → i ≤ k → k < i + 8 * n → bit_in block k ≡ 1
 unfolding bit_in
@@ -272,7 +272,7 @@ bit_in-other block p v j h e = elim (cases_lt (j / 8) p) [
   | inr high ↦ ap (λ x. bit_at x (j % 8)) (get_or-splice_after p (v ∷ []) block (j / 8) 0 (omega arith) (omega arith))
 ]
 
--- bit j of a block in which byte p gets the value v, which is the old byte but for one bit
+-- bit j of a block in which byte p gets the value v, which is the old byte except for one bit
 bit_in-put : (block : List ℕ) (i j v : ℕ) → length block ≡ 1024 → i < 8192 → j < 8192 → j ≢ i
     → ((k : ℕ) → k < 8 → k ≢ i % 8 → bit_at v k ≡ bit_at (get_or block (i / 8) 0) k)
     → bit_in (splice (i / 8) (v ∷ []) block) j ≡ bit_in block j

@@ -1,4 +1,4 @@
--- The names that the lemmas of this crate import from elsewhere, passed on from one place. Declares nothing.
+-- The names that the lemmas of this crate import from other crates, passed on here. Declares nothing.
 pub use Rattle.std.proofs.Common.{◌%◌, ◌*◌, ◌+◌, ◌++◌, ◌-◌, ◌/◌, ◌<◌, [], ◌^◌, add-zero, ap, arith, Bool, cond, drop}
 pub use Rattle.std.proofs.Common.{eqb, false, get_or, inl, inr, length, List, map, None, not, Option, refl, replicate}
 pub use Rattle.std.proofs.Common.{set, Some, subst, suc, sym, true, w8, zero, ℕ, ◌∙◌, ◌∷◌, ◌≡◌, ◌≢◌, ◌≤◌}

@@ -68,7 +68,7 @@ zeros_in bits = count_by (λ x. x == 0) bits
 pub zeros-first : (x v : ℕ) (xs : List ℕ) → x ≡ v → zeros_in (x ∷ xs) ≡ cond (v == 0) 1 0 + zeros_in xs
 zeros-first x v xs e = sum_by-cons (λ y. cond (y == 0) 1 0) x xs ∙ ap (λ y. cond {A = ℕ} (y == 0) 1 0 + zeros_in xs) e
 
--- places that are set count nothing
+-- bits that are set count nothing
 pub zeros-skip : (xs : List ℕ) (i j : ℕ) → i ≤ j → j ≤ length xs → ((k : ℕ) → i ≤ k → k < j → get_or xs k 0 ≡ 1)
     → zeros_in (drop i xs) ≡ zeros_in (drop j xs)
 zeros-skip xs zero zero low high ones = refl
@@ -121,7 +121,7 @@ module _ {g : Geometry} {old : Blocks} {start : ℕ} (begins : start ≡ data_fr
     takes = subst (λ x. SetsBit g x new b 1) same sets;
   }
 
--- ---- free blocks are counted from a place on
+-- ---- free blocks are counted from an index on
 
 zeros-here : (xs : List ℕ) (j : ℕ) → j < length xs → get_or xs j 0 ≡ 0
     → zeros_in (drop j xs) ≡ 1 + zeros_in (drop (j + 1) xs)

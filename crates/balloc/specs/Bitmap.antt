@@ -11,7 +11,7 @@ use Rattle.layout.specs.Sound.{HasParts}
 abbrev pub lowest_clear : List ℕ → ℕ → ℕ → Option ℕ
 lowest_clear block from to = find (λ i. bit_in block i == 0) (range_with_len from (to - from))
 
--- new is old but for the bit of b
+-- new is old except for the bit of b
 pub record SetsBit (g : Geometry) (old new : List (List ℕ)) (b bit : ℕ) : Type 0 where
   pub parts : HasParts g new
   pub here : bit_of new (bitmap_start_of g.inodes) b ≡ bit
@@ -40,7 +40,7 @@ pub record TakesLowest (g : Geometry) (old new : List (List ℕ)) (b : ℕ) : Ty
   pub lowest : IsLowestFree g old b
   pub takes : SetsBit g old new b 1
 
--- the first free block from here on is told, or that there is none
+-- the first free block from here on is returned, or None where there is none
 abbrev pub Finds : Geometry → List (List ℕ) → ℕ → Option ℕ → Type 0
 Finds g blocks from (Some b) = IsFirstFree g blocks from b
 Finds g blocks from None = IsFullFrom g blocks from

@@ -46,7 +46,7 @@ pub record TakesNode (g : Geometry) (old new : List (List ℕ)) (n : ℕ) (kind 
   pub inode : inode_at new n ≡ fresh_inode kind links
   pub sets : SetsNode g old new n (fresh_node kind links)
 
--- the lowest free inode is told, or that there is none
+-- the lowest free inode is returned, or None where there is none
 abbrev pub FindsInode : Geometry → List (List ℕ) → Option ℕ → Type 0
 FindsInode g blocks (Some n) = IsLowestUnused g blocks n
 FindsInode g blocks None = AreAllUsed g blocks

@@ -1,4 +1,4 @@
--- What is told of a device that is left of another.
+-- What holds of a device that is what another one became.
 use Rattle.std.specs.Prelude.{List, ℕ, ◌≡◌, ◌≤◌}
 use Rattle.unixmodel.specs.Failures.{Rises}
 

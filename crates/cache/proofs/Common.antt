@@ -1,4 +1,4 @@
--- The names that the lemmas of this crate import from elsewhere, passed on from one place. Declares nothing.
+-- The names that the lemmas of this crate import from other crates, passed on here. Declares nothing.
 pub use Rattle.std.proofs.Common.{◌&&◌, ◌+◌, ◌++◌, ◌-◌, ◌<◌, [], ◌^◌, ap, arith, Bool, Bor, cond, drop, Err, false}
 pub use Rattle.std.proofs.Common.{Fits, get_or, inl, inr, length, List, min, MutBor, nat_eq, nat_le, None, Ok, OnErr}
 pub use Rattle.std.proofs.Common.{OnOk, Option, refl, Result, set, slice_get, Some, subst, suc, sym, take, true, w64}

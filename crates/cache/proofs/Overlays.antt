@@ -285,7 +285,7 @@ overlay-other es c n b none low = overlay-put es es c (set c n b) n b (length-se
 
 -- ---- the blocks of a cache are put into another one, from the last used to the first
 
--- the blocks of held that stand before rest are those of copy
+-- the blocks of held that come before rest are those of copy
 pub record IsHalf (held copy : LruCache ℕ Slot) (rest : Entries) : Type 0 where
   pub joined : rest ++ copy.entries ≡ held.entries
   pub cap : copy.cap ≡ held.cap

@@ -17,7 +17,7 @@ use Rattle.std.proofs.lemmas.Result.{err_from_is_err_and}
 
 -- ---- a block comes into the cache, and another leaves
 
--- which block leaves, as a look at the last entry tells
+-- the block that leaves is the last entry
 module _ (c : LruCache ℕ Slot) {r : Option (Bor ℕ × Bor Slot)} {x : Bor ℕ × Bor Slot} (valid : IsValid nat_eq c)
     (told : option_map deref_pair r ≡ last_entry c.entries) (is : r ≡ Some x) where
   abbrev number : ℕ
@@ -266,14 +266,14 @@ module _ {D : Type 0} {identity : D → List ℕ} where
   pub goes-twice : {a b c d : Disk D} → Goes identity a b → Goes identity b c → Goes identity c d → Goes identity a d
   goes-twice one two three = goes-after (goes-after one two) three
 
-  -- ---- the ends of a call, behind steps that were good
+  -- ---- the ends of a call, after steps that were good
 
   module _ {old new : Disk D} {T : Type 0} {Done : T → Type 0} where
     -- it is done
     pub step-done : {x : T} → Goes identity old new → Done x → Steps identity old new (Ok x) Done
     step-done goes done = record { done = done; goes = goes; failed = λ e. cc }
 
-    -- a fault is told
+    -- a fault is returned
     pub step-lost : {s : Result T DeviceFault} {f : DeviceFault} → Goes identity old new
         → Rises old.failures new.failures → IsErrAnd s (λ x. x ≡ f) → Steps identity old new s Done
     step-lost {s} goes rises told =
@@ -286,7 +286,7 @@ module _ {D : Type 0} {identity : D → List ℕ} where
       step-failed step was told =
           step-lost (goes-after goes step.goes) (rises-before goes.later (step.failed (ap is_err was))) told
 
-  -- the last step tells all
+  -- the last step's result is that of the whole
   pub step-last : {old mid new : Disk D} {T : Type 0} {Was Done : T → Type 0} {r : Result T DeviceFault}
       → Goes identity old mid → ((x : T) → Was x → Done x) → Steps identity mid new r Was
       → Steps identity old new r Done
@@ -295,7 +295,7 @@ module _ {D : Type 0} {identity : D → List ℕ} where
   step-last {r = Err e} goes so step =
       record { done = tt; goes = goes-after goes step.goes; failed = λ e. rises-before goes.later (step.failed e) }
 
-  -- what was told before the last step
+  -- what was read before the last step
   pub read-done : {old new : Disk D} {T : Type 0} {Told : T → Type 0} {x : T} → Goes identity old new
       → new.blocks ≡ old.blocks → Told x → Reads identity old new (Ok x) Told
   read-done goes same told = step-done goes (record { told = told; same = same })
@@ -335,7 +335,7 @@ module _ {D : Type 0} (content : D → Blocks) (failures : D → ℕ) where
           rises-before failures-seen (rises-before later (cause.failed (ap is_err was))) in
           step-lost (goes-seen (omega (arith, cause.later))) rises told
 
-      -- the last access tells all
+      -- the last access's result is that of the whole
       pub last-seen : {Done : Type 0} {before : ℕ} (r : Result Unit DeviceFault) → failures a ≤ before
           → HasCause before (failures b) r → OnOk r Done → Steps identity old (seen fs b) r (λ _. Done)
       last-seen (Ok x) later cause done =

@@ -10,15 +10,15 @@ pub record Goes {D : Type 0} (identity : D → List ℕ) (old new : Disk D) : Ty
   pub same_device : identity new.device ≡ identity old.device
   pub later : old.failures ≤ new.failures
 
--- so does a disk on which a step is tried. It is done, or a fault is told, and that only where the device counts a
--- failure
+-- so does a disk on which a step is tried
+-- it is done, or a fault is returned, and that only where the device counts a failure
 pub record Steps {D T : Type 0} (identity : D → List ℕ) (old new : Disk D) (result : Result T DeviceFault)
     (Done : T → Type 0) : Type 0 where
   pub done : IfOk result Done
   pub goes : Goes identity old new
   pub failed : IsErr result → Rises old.failures new.failures
 
--- the blocks are as they were, and this is told of them
+-- the blocks are as they were, and this holds of them
 pub record AsBefore {D : Type 0} (old new : Disk D) (Told : Type 0) : Type 0 where
   pub told : Told
   pub same : new.blocks ≡ old.blocks

@@ -1,9 +1,10 @@
 //! The blocks of a device as one list, for the layers above.
 //!
-//! At most 30 blocks are held, those that were used last; a read of a part of one of the first four leaves the four in
-//! their order. A write changes the held block alone; the device has it once the block had to leave, or after `flush`.
-//! Where there is no memory for a block it isn't held: a read answers from the one block that was read, and a write
-//! goes to the device at once.
+//! At most 30 blocks are held, those that were used last.
+//! A read of a part of one of the first four leaves the four in their order.
+//! A write changes the held block alone; the device has it once the block had to leave, or after `flush`.
+//! Where there is no memory for a block it isn't held: a read returns the one block that was read, and a write goes to
+//! the device at once.
 #![tactic(auto)]
 
 ghost use Rattle.std.specs.Prelude.{◌≡◌, ℕ, ◌+◌, ◌<◌, ◌≤◌, List, length, IfOk, IfSome, slice_set};
@@ -133,7 +134,7 @@ impl<D: BlockDev, A: Allocator + Clone> Cache<D, A> {
         }
     }
 
-    /// Reads bytes of block `n` from the place `at` on, as many as `out` has. Of a held block nothing else is copied.
+    /// Reads bytes of block `n` from offset `at` on, as many as `out` has. Of a held block nothing else is copied.
     #[inline]
     pub fn read_part(&mut self, n: usize, at: usize, out: &mut [u8]) -> Result<(), DeviceFault>
         requires block { n < length self.old.blocks }
@@ -179,7 +180,7 @@ impl<D: BlockDev, A: Allocator + Clone> Cache<D, A> {
         Ok(())
     }
 
-    /// Writes bytes into block `n` from the place `at` on.
+    /// Writes bytes into block `n` from offset `at` on.
     pub fn write(&mut self, n: usize, at: usize, bytes: &[u8]) -> Result<(), DeviceFault>
         requires block { n < length self.old.blocks }
         requires fits { at + length bytes.now ≤ 1024 }

@@ -6,7 +6,7 @@ use std::alloc::Allocator;
 use std::num::NonZeroU64;
 use std::process::Abort;
 
-/// An empty disk of so many blocks.
+/// An empty disk of `blocks` blocks.
 pub fn disk_of(rt: &(impl Abort + AllocGlobal), blocks: usize) -> MemDisk {
     let bytes = vec![in rt.alloc(); 0; blocks.saturating_mul(1024)].expect(rt, "memory");
     MemDisk::new(bytes).expect(rt, "whole blocks")
@@ -27,7 +27,7 @@ pub fn byte<D: BlockDev, A: Allocator + Clone>(
     Some(block[at])
 }
 
-/// Writes one byte into a block that there is, and tells whether that went well.
+/// Writes one byte into a block that there is, and returns whether that went well.
 pub fn put<D: BlockDev, A: Allocator + Clone>(
     cache: &mut Cache<D, A>,
     n: usize,
@@ -42,7 +42,7 @@ pub fn put<D: BlockDev, A: Allocator + Clone>(
 enum Act {
     /// Writes the first byte of a block, and goes well or not.
     Put(usize, u8, bool),
-    /// Writes this byte at so many places of a block, from the first on.
+    /// Writes this byte into that many bytes of a block, from the first on.
     Fill(usize, usize, u8),
     /// Reads a block, which has this first byte.
     Read(usize, Option<u8>),
@@ -86,7 +86,7 @@ fn flushes(cache: &mut Cache<FailAt<MemDisk>>, count: usize) -> bool {
     true
 }
 
-// Does it, and tells whether that gives what is expected.
+// Does it, and returns whether that gives what is expected.
 fn does(cache: &mut Cache<FailAt<MemDisk>>, act: Act) -> bool {
     match act {
         Act::Put(n, value, is_good) => put(cache, n, 0, value) == is_good,
@@ -104,7 +104,7 @@ pub fn took(disk: &MemDisk, reads: u64, writes: u64) -> bool {
     disk.reads() == reads && disk.writes() == writes
 }
 
-// Whether a disk has these bytes at these places.
+// Whether a disk has these bytes at these offsets.
 fn has(disk: &MemDisk, rows: &[(usize, u8)]) -> bool {
     let bytes = disk.bytes();
     for (at, byte) in rows {
@@ -119,12 +119,12 @@ fn has(disk: &MemDisk, rows: &[(usize, u8)]) -> bool {
 struct Case {
     name: &'static str,
     blocks: usize,
-    /// So many accesses are good before the one that fails.
+    /// That many accesses are good before the one that fails.
     good: u64,
     acts: &'static [Act],
     reads: u64,
     writes: u64,
-    /// Places of the disk and the bytes there.
+    /// Offsets on the disk and the bytes there.
     bytes: &'static [(usize, u8)],
 }
 
@@ -270,7 +270,7 @@ static CASES: [Case; 11] = [
     },
 ];
 
-// Does them in turn, and tells how many gave what is expected before one didn't.
+// Does them in turn, and returns how many gave what is expected before one didn't.
 fn done(cache: &mut Cache<FailAt<MemDisk>>, acts: &[Act]) -> usize {
     for (at, act) in acts.iter().enumerate() {
         if !does(cache, *act) {

@@ -76,9 +76,9 @@ pub unseen : (o : Option Process) → None ≡ option_map seen_of o → None ≡
 unseen None h = refl
 unseen (Some p) h = absurd (none-some (seen_of p) h)
 
--- ---- four bytes from a place in a page on, and their number
+-- ---- four bytes from an offset in a page on, and their number
 
--- byte k from a place on, 0 behind the end
+-- byte k, and 0 after the end
 abbrev byte : List ℕ → ℕ → ℕ
 byte xs k = unwrap_or (slice_get xs k) 0
 
@@ -90,7 +90,7 @@ number-four (a ∷ b ∷ []) = omega arith
 number-four (a ∷ b ∷ c ∷ []) = omega arith
 number-four (a ∷ b ∷ c ∷ d ∷ xs) = omega arith
 
--- a byte behind a place is one of the list
+-- a byte after an offset is one of the list
 byte-drop : (at k n : ℕ) (xs : List ℕ) → n ≡ at + k → byte (drop at xs) k ≡ byte xs n
 byte-drop zero k n xs h = let same : n ≡ k = omega arith in rw same refl
 byte-drop (suc at) k n [] h = refl

@@ -21,7 +21,7 @@ trap_shown p = trap_of (effect_of p)
 abbrev pub fault_shown : Process → Option (Trap × ℕ)
 fault_shown p = option_map (λ trap. (trap, p.pc)) (trap_shown p)
 
--- the trap and the pc that are told
+-- the trap and the pc that are returned
 abbrev pub told_in : Option Fault → Option (Trap × ℕ)
 told_in told = option_map (λ fault. (fault.trap, fault.pc)) told
 

@@ -38,7 +38,7 @@ pub fn allows<D: BlockDev, T: Translate>(
     }
 }
 
-// A byte of a page, and 0 behind its end.
+// A byte of a page, and 0 after its end.
 fn byte(page: &[u8], at: usize) -> u32
     ensures value { result ≡ unwrap_or (slice_get page.now at) 0 }
     ensures small { result < 256 }
@@ -49,7 +49,7 @@ fn byte(page: &[u8], at: usize) -> u32
     }
 }
 
-// The number of the four bytes from a place in a page on.
+// The number of the four bytes from an offset in a page on.
 fn word_at(page: &[u8; 4096], at: usize) -> u32
     requires { at < 4096 }
     ensures { result ≡ number (slice_range page.now at (at + 4)) }

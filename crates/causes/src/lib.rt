@@ -1,4 +1,4 @@
-//! Why the next instruction of a process isn't done: the trap that it would raise, told from what a machine shows.
+//! Why the next instruction of a process isn't done: the trap that it would raise, found from what a machine shows.
 #![tactic(auto)]
 
 mod access;

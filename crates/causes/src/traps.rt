@@ -1,7 +1,8 @@
 //! The trap that the next instruction of a process would raise.
 //!
-//! From the RISC-V unprivileged manual. The address that is told is the target of a jump, the accessed address of a
-//! load or store, and else the pc; an address that is no multiple of the size comes before a page fault.
+//! From the RISC-V unprivileged manual.
+//! The address that is returned is the target of a jump, the accessed address of a load or store, and else the pc.
+//! An address that is no multiple of the size comes before a page fault.
 ghost use Rattle.std.specs.Prelude.{◌≡◌, ◌+◌, Some, option_and_then, slice_index, ℕ, List};
 ghost use Rattle.causes.specs.Causes.{StoreTraps, memory_shown, trap_of, trap_shown};
 ghost use Rattle.unixmodel.specs.Cycle.{act_word};

@@ -1,4 +1,4 @@
--- The names that the lemmas of this crate import from elsewhere, passed on from one place. Declares nothing.
+-- The names that the lemmas of this crate import from other crates, passed on here. Declares nothing.
 pub use Rattle.std.proofs.Common.{◌%◌, ◌+◌, ◌++◌, ◌-◌, ◌<◌, [], ap, append-nil, append_assoc, ap₂, arith, Bool, drop}
 pub use Rattle.std.proofs.Common.{false, flat_map, get_or, inl, inr, length, List, min, None, Option, refl, rules, set}
 pub use Rattle.std.proofs.Common.{slice_get, Some, suc, sym, take, true, zero, ℕ, ◌∙◌, ◌∷◌, ◌≡◌, ◌≢◌, ◌≤◌}

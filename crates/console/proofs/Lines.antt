@@ -38,7 +38,7 @@ line-drop_first xs k (suc c) e h =
     (ap (λ i. ring 128 xs i c) z ∙ ring-around _ xs _ 0 c ∙ ap (λ i. ring 128 xs i c) y)
     (ring-around _ xs _ c e ∙ ap (λ i. ring 128 xs i e) b)
 
--- the byte at a place of a ring
+-- the byte at an index of a ring
 byte-ring : (xs : List ℕ) (k n i : ℕ) → i < n → get_or (ring 128 xs k n) i 0 ≡ get_or xs ((k + i) % 128) 0
 unfolding ring
 byte-ring xs k zero i h = absurd (omega arith)
@@ -55,7 +55,7 @@ line-byte xs k c e {i} h = sym (byte-ring xs k (c + e) i h) ∙ ap (λ l. get_or
 
 -- ---- the steps of a read
 
--- the first byte, and those behind it
+-- the first byte, and those after it
 first-is : (bs : List ℕ) {b : ℕ} → Some b ≡ slice_get bs 0 → bs ≡ b ∷ drop 1 bs
 first-is [] e = cc
 first-is (x ∷ bs) {b} e = (let same : x ≡ b = cc in rw same refl)

@@ -1,11 +1,11 @@
--- How a console's bytes stand in its ring, and what a key does there.
+-- How a console's bytes lie in its ring, and what a key does there.
 use Rattle.std.specs.Prelude.{[], List, false, length, suc, take, zero, ℕ, ◌++◌, ◌+◌, ◌-◌, ◌∷◌, ◌≡◌}
 use Rattle.unixmodel.specs.Console.{Console, Keyed, Taken, committed_at_end, no_key, is_full, rub_out, with_byte}
 use Rattle.ring.specs.Ring.{ring}
 use Rattle.console.specs.declared.input.Change.{Change}
 use Rattle.console.specs.declared.input.Change.TheVariants.{Add, Erase, Nothing}
 
--- the console whose bytes stand in a ring of 128 places: those that can be read, and then the edited line
+-- the console whose bytes are in a ring of 128 slots: those that can be read, and then the edited line
 abbrev pub line_of : (places : List ℕ) (from committed edited : ℕ) → Console
 line_of places from committed edited =
     record { committed = ring 128 places from committed; edited = ring 128 places (from + committed) edited }

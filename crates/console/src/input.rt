@@ -30,11 +30,11 @@ enum Change {
 pub struct Taken {
     /// How many bytes it took.
     pub count: usize,
-    /// It answers now, and takes no more.
+    /// It returns now, and takes no more.
     pub over: bool,
 }
 
-/// The input of a console: the bytes that can be read, and the line that is still edited. They stand in one ring.
+/// The input of a console: the bytes that can be read, and the line that is still edited. They share one ring.
 ///
 /// In contracts it is the console of the abstract Unix.
 #[derive(Drop)]
@@ -57,7 +57,7 @@ impl Model for Console {
     ghost invariant = { λ c. (c.from < 128) × (c.committed + c.edited ≤ 128) };
 }
 
-// Takes so many bytes off the screen.
+// Takes `count` bytes off the screen.
 fn rub_out<W: Out>(count: usize, out: &mut W) -> Result<(), OutFault>
     ensures ok { OnOk result (Appends (W.contents out.old) (W.contents out.new) (rub_outs count)) }
     ensures err { OnErr result (AppendsBeginning (W.contents out.old) (W.contents out.new) (rub_outs count)) }
@@ -210,7 +210,7 @@ impl Console {
         self.committed > 0
     }
 
-    /// The byte at a place: first come those that can be read, the oldest before the others, then the edited line.
+    /// The byte at an index: first come those that can be read, the oldest first, then the edited line.
     pub fn byte(&self, at: usize) -> u8
         requires { at < length self.now.committed + length self.now.edited }
         ensures { result ≡ slice_index (self.now.committed ++ self.now.edited) at }
@@ -238,9 +238,10 @@ impl Console {
         self.committed -= 1;
     }
 
-    /// Takes bytes for a read that still has a count of `n`, and already has some bytes or none. It ends at its count,
-    /// behind a line feed, or before ^D; with none yet it takes the ^D, which is none of its bytes. If the bytes run
-    /// out first the read isn't over.
+    /// Takes bytes for a read that still has a count of `n`, and already has some bytes or none.
+    /// It ends at its count, after a line feed, or before ^D; with none yet it takes the ^D, which is none of its
+    /// bytes.
+    /// If the bytes run out first the read isn't over.
     pub fn take(&mut self, n: usize, has_some: bool, buffer: &mut [u8; ROOM]) -> Taken
         ensures took { take_line has_some n self.old.committed ≡ record {
           bytes = take result.count buffer.new;

@@ -1,4 +1,4 @@
--- The names that the lemmas of this crate import from elsewhere, passed on from one place. Declares nothing.
+-- The names that the lemmas of this crate import from other crates, passed on here. Declares nothing.
 pub use Rattle.std.proofs.Common.{[], ap, arith, length-append, rules, take, ◌∙◌, ◌∷◌, ◌≡◌}
 pub use Rattle.kernel.proofs.Steps.{lost-reads, lost-then, read-then}
 pub use Rattle.kernel.specs.Kernel.{Kernel, loaded, on_hart, state_of}

@@ -215,7 +215,7 @@ pub none-done : {old new : Kernel} {told : Option InodeStat} (digest now number 
 none-done {old = old} digest now number reads is mixed_is =
     (reads.0, no-node digest now (slot old.tree.files number) is reads.1 mixed_is)
 
--- behind a look, what goes on is told of the whole
+-- after a look at the inode, what goes on holds of the whole
 pub node-done : {old mid : Kernel} (new : Kernel) {told : Option InodeStat} {s : InodeStat} {front : ℕ}
     (digest number : ℕ) (r : Result ℕ DeviceFault)
     → ReadsDisk old mid (λ t. TellsAny t (slot old.tree.files number)) (Ok told) → told ≡ Some s

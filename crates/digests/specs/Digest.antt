@@ -43,7 +43,7 @@ mix digest number = folded (bit_xor digest number * factor % 2 ^ 64)
 abbrev pub mixed : ℕ → List ℕ → ℕ
 mixed digest numbers = fold mix digest numbers
 
--- n steps, each of which is told its number, from 0 on
+-- n steps, each of which is given its number, from 0 on
 unfoldable pub each : (ℕ → ℕ → ℕ) → ℕ → ℕ → ℕ
 each step zero digest = digest
 each step (suc n) digest = step (each step n digest) n
@@ -55,7 +55,7 @@ word_mixed bytes digest k = mix digest (little_number 8 (drop (8 * k) bytes))
 abbrev pub words_mixed : ℕ → List ℕ → ℕ
 words_mixed digest bytes = each (word_mixed bytes) (length bytes / 8) digest
 
--- bytes go in as words of 8, and what is left behind the last word by itself
+-- bytes go in as words of 8, and what is left after the last word by itself
 unfoldable pub bytes_mixed : ℕ → List ℕ → ℕ
 bytes_mixed digest bytes = mixed (words_mixed digest bytes) (drop (8 * (length bytes / 8)) bytes)
 
@@ -102,7 +102,7 @@ memory_mixed digest memory =
 abbrev pub front_numbers : Process → List ℕ
 front_numbers p = p.pid ∷ p.parent ∷ p.pc ∷ p.size ∷ p.directory ∷ flag p.killed ∷ []
 
--- a process, but for its memory
+-- a process, except its memory
 unfoldable pub bare_mixed : ℕ → Process → ℕ
 bare_mixed digest p = descriptors_mixed
     (mixed (mixed (mixed digest (front_numbers p)) p.registers) (mode_numbers p.mode)) p.descriptors
@@ -128,7 +128,7 @@ open_mixed digest (Some f) = mixed (mixed digest (target_numbers f.target)) (fla
 unfoldable pub opens_mixed : ℕ → List (Option OpenFile) → ℕ
 opens_mixed digest opens = each (λ d n. open_mixed d (slot opens n)) open_limit digest
 
--- the bytes of a pipe stand between two numbers that are no bytes
+-- the bytes of a pipe come between two numbers that are no bytes
 abbrev pub pipe_mixed : ℕ → Option (List ℕ) → ℕ
 pipe_mixed digest None = mix digest 0
 pipe_mixed digest (Some bytes) = mix (mixed (mix digest 0x100) bytes) 0x100

@@ -1,4 +1,4 @@
--- What the inode of a node tells that goes into a digest.
+-- What goes into a digest of the inode of a node.
 use Rattle.std.specs.Prelude.{List, [], if◌then◌else◌, ℕ, ◌==◌, ◌∷◌}
 use Rattle.inode.specs.declared.InodeStat.{InodeStat}
 

@@ -70,7 +70,7 @@ fn mix_words(digest: u64, bytes: &[u8]) -> u64
     digest
 }
 
-/// Bytes go in as words of 8, and what is left behind the last word by itself.
+/// Bytes go in as words of 8, and what is left after the last word by itself.
 #[tactic(auto, unfolding(crate::specs::Digest::bytes_mixed))]
 pub fn mix_bytes(digest: u64, bytes: &[u8]) -> u64
     ensures { result ≡ bytes_mixed digest bytes.now }

@@ -27,7 +27,7 @@ fn major(stat: InodeStat) -> u64
     }
 }
 
-// What an inode tells goes in.
+// What an inode says goes in.
 fn mix_stat(digest: u64, stat: InodeStat) -> u64
     ensures { result ≡ mixed digest (node_numbers stat) }
 {

@@ -90,7 +90,7 @@ pub fn mix_console(digest: u64, console: &Console) -> u64
     let committed = console.committed_len();
     let edited = console.edited_len();
     let mut digest = mix_numbers(digest, &[committed as u64, edited as u64]);
-    // It tells that they are few.
+    // Its contract says that they are few.
     let _can = console.can_take();
     for at in 0..committed + edited {
         digest = mix(digest, u64::from(console.byte(at)));

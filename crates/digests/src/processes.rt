@@ -70,7 +70,7 @@ fn mix_descriptors(digest: u64, descriptors: &[Option<u8>]) -> u64
     digest
 }
 
-// A process of so many bytes goes in, but for its memory.
+// A process of `size` bytes goes in, except its memory.
 #[tactic(auto, unfolding(crate::specs::Digest::bare_mixed))]
 fn mix_process(digest: u64, process: &Process, size: u64) -> u64
     ensures { result ≡ bare_mixed digest (with_space (record { memory = []; size = size }) process.now) }
@@ -87,7 +87,7 @@ fn mix_process(digest: u64, process: &Process, size: u64) -> u64
     mix_descriptors(mix_mode(digest, process.mode), &process.descriptors)
 }
 
-// A page of a place's memory goes in, if there is one with this number.
+// A page of a slot's memory goes in, if there is one with this number.
 fn mix_page<T: Translate>(digest: u64, spaces: &Spaces<T>, at: usize, n: u64) -> u64
     requires { has_space spaces.now at ≡ true }
     ensures { result ≡ page_or_same digest (slice_get (view_at spaces.now at).memory n) }
@@ -101,7 +101,7 @@ fn mix_page<T: Translate>(digest: u64, spaces: &Spaces<T>, at: usize, n: u64) ->
     }
 }
 
-// The memory of a place goes in.
+// The memory of a slot goes in.
 fn mix_memory<T: Translate>(digest: u64, spaces: &Spaces<T>, at: usize) -> u64
     requires { has_space spaces.now at ≡ true }
     ensures { result ≡ memory_mixed digest (view_at spaces.now at).memory }
@@ -114,7 +114,7 @@ fn mix_memory<T: Translate>(digest: u64, spaces: &Spaces<T>, at: usize) -> u64
     digest
 }
 
-// The process of a place goes in.
+// The process of a slot goes in.
 fn mix_place<D: BlockDev, T: Translate>(digest: u64, kernel: &Kernel<D, T>, at: usize) -> u64
     ensures { result ≡ place_mixed digest (process_at (state_of kernel.now) at) }
 {

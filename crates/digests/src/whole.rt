@@ -44,7 +44,7 @@ fn mix_front<D: BlockDev, T: Translate>(kernel: &Kernel<D, T>) -> u64
     mix_counts(kernel.ticks(), kernel.table(), kernel.halted())
 }
 
-/// The digest of a state, but for its files: they go in by `mix_files`.
+/// The digest of a state, except its files: they go in by `mix_files`.
 #[tactic(auto, unfolding(crate::specs::Digest::digest_but_files))]
 pub fn digest_but_files<D: BlockDev, T: Translate>(kernel: &Kernel<D, T>) -> u64
     ensures { result ≡ digest_but_files (state_of kernel.now) }

@@ -5,7 +5,7 @@ use blockdev::MemDisk;
 use image::{ImageFault, MigrateFault, Summary, check, migrate};
 use std::process::Abort;
 
-// Another file of 12 blocks, inode 3, behind the one that has the blocks 6 to 17.
+// Another file of 12 blocks, inode 3, after the one that has the blocks 6 to 17.
 const SECOND: [Change; 20] = [
     (ROOT + 8, 64),
     (5168, 3),

@@ -1,7 +1,8 @@
-//! The headers of a program file, as exec reads them: ELF64, whose numbers stand lowest byte first.
+//! The headers of a program file, as exec reads them: ELF64, whose numbers have their lowest byte first.
 //!
-//! Only what exec asks for is looked at: the first four bytes, the entry, where the program headers stand and how many
-//! they are, and of each its type, flags, places and sizes. What the segments make of memory is the caller's affair.
+//! Only what exec asks for is looked at: the first four bytes, the entry, where the program headers are and how many.
+//! Of each program header it is the type, flags, offset, address and sizes.
+//! What the segments make of memory is the caller's affair.
 #![tactic(auto)]
 
 ghost use Rattle.std.specs.Prelude.{◌≡◌};
@@ -43,7 +44,7 @@ pub enum ElfFault {
 pub struct FileHeader {
     /// The address of the first instruction, a multiple of 4.
     pub entry: u64,
-    /// Where in the file the program headers stand, one after the other.
+    /// Where in the file the program headers are, one after the other.
     pub program_headers: u64,
     /// How many they are.
     pub count: u16,
@@ -56,13 +57,13 @@ pub struct LoadSegment {
     pub writable: bool,
     /// The program may execute it.
     pub executable: bool,
-    /// Where its bytes stand in the file.
+    /// Where its bytes are in the file.
     pub offset: u64,
     /// Where they go in memory: a multiple of 4096.
     pub address: u64,
     /// How many bytes it has in the file.
     pub file_size: u64,
-    /// How many it has in memory: those behind the file's are 0.
+    /// How many it has in memory: those after the file's are 0.
     pub size: u64,
 }
 
@@ -86,8 +87,9 @@ pub fn header(bytes: &[u8; HEADER_SIZE], len: u64) -> Result<FileHeader, ElfFaul
     Ok(header)
 }
 
-/// The segment that a program header asks for, behind what ends at address `end`, of a file of `len` bytes; `None` for
-/// a program header of a type that isn't loaded. Of several refusals the first in the order of `ElfFault` is told.
+/// The segment that a program header asks for, above what ends at address `end`, of a file of `len` bytes.
+/// `None` for a program header of a type that isn't loaded.
+/// Of several refusals the first in the order of `ElfFault` is returned.
 pub fn segment(
     bytes: &[u8; PROGRAM_HEADER_SIZE],
     end: u64,
@@ -105,7 +107,7 @@ pub fn segment(
     }
 }
 
-// The segment that a program header tells of.
+// The segment that a program header describes.
 fn segment_in(bytes: &[u8; PROGRAM_HEADER_SIZE]) -> LoadSegment
     ensures { result ≡ segment_shown (segment_at bytes.now 0) }
 {
@@ -137,7 +139,7 @@ fn fault(segment: LoadSegment, end: u64, len: u64) -> Option<ElfFault>
     }
 }
 
-// Whether a file of `len` bytes has `size` bytes at a place. It has none anywhere.
+// Whether a file of `len` bytes has `size` bytes at an offset. It has 0 bytes anywhere.
 fn is_within(at: u64, size: u64, len: u64) -> bool
     ensures { result ≡ is_within at size len }
 {

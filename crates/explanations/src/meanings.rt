@@ -270,13 +270,13 @@ const ENDS: [Meaning; 10] = [
     ),
 ];
 
-/// What a play tells that waited in vain, and what that means.
+/// What a play prints that waited in vain, and what that means.
 const IN_VAIN: Meaning = (
     ": not reached in ",
     "the machine didn't come to that in so many steps: --report tells what each process does",
 );
 
-// Where a text stands in the lines that it is found in.
+// Where a text is in the lines that have it.
 #[derive(Clone, Copy)]
 enum Place {
     Whole,
@@ -285,7 +285,7 @@ enum Place {
     Within,
 }
 
-// Whether a text stands in a line.
+// Whether a line has a text there.
 fn stands(text: &str, place: Place, line: &str) -> bool {
     match place {
         Place::Whole => line == text,
@@ -295,7 +295,7 @@ fn stands(text: &str, place: Place, line: &str) -> bool {
     }
 }
 
-// What a line means in which one of these texts stands.
+// What a line means that has one of these texts there.
 fn among(meanings: &[Meaning], place: Place, line: &str) -> Option<&'static str> {
     for (text, means) in meanings {
         if stands(text, place, line) {

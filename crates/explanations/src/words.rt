@@ -56,7 +56,7 @@ pub fn first_word(line: &str) -> &str {
     ""
 }
 
-/// The number that stands behind a beginning of a line.
+/// The number that follows a beginning of a line.
 pub fn number_behind(line: &str, beginning: &str) -> Option<usize> {
     let rest = line.strip_prefix(beginning)?;
     let digits = match rest.split_once(':') {

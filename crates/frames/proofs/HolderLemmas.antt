@@ -28,7 +28,7 @@ count_of-first f g xs e = rw (eq-eqb f g e) refl
 pub count_of-other : (f g : ℕ) (xs : List ℕ) → f ≢ g → count_of f (g ∷ xs) ≡ count_of f xs
 count_of-other f g xs ne = rw (ne_eqb f g ne) (omega arith)
 
--- a frame that is not among these stands there no time
+-- a frame that occurs nowhere in this list is not among it
 pub among-none : (f : ℕ) (xs : List ℕ) → count_of f xs ≡ 0 → among f xs ≡ false
 among-none f [] h = refl
 among-none f (x ∷ xs) h = elim (cases_eq f x) [
@@ -56,7 +56,7 @@ distinct-count f (x ∷ xs) h = elim (cases_eq f x) [
   | inr other ↦ rw (count_of-other f x xs other) (distinct-count f xs h.1)
 ]
 
--- a frame is among these, or stands there no time
+-- a frame is among these, or doesn't occur there
 pub count-cases : (f : ℕ) (xs : List ℕ) → (among f xs ≡ true) ⊎ (count_of f xs ≡ 0)
 count-cases f xs = elim (among f xs) as (λ b. among f xs ≡ b → (among f xs ≡ true) ⊎ (count_of f xs ≡ 0))
     [ true ↦ λ e. inl e | false ↦ λ e. inr (none-among f xs e) ] refl
@@ -207,7 +207,7 @@ sum_below-one (suc n) x g h = elim (cases_eq n x) [
   | inr other ↦ rw (ne_eqb n x other) (omega (arith, sum_below-one n x g (omega arith)))
 ]
 
--- a list of frames below n is as long as the frames stand there
+-- a list of frames below n is as long as the sum of how often each occurs
 pub length-counts : (xs : List ℕ) (n : ℕ) → ((f : ℕ) → n ≤ f → count_of f xs ≡ 0)
     → length xs ≡ sum_below n (λ f. count_of f xs)
 length-counts [] n h = sym (sum_below-zero n (λ f. 0) (λ f l. refl))

@@ -38,8 +38,8 @@ further_at s f = slice_index_or (extra_of s).0 f 0
 abbrev pub free_count : List (List ℕ) → Frames → ℕ
 free_count m s = length (free_of m s) - (extra_of s).1
 
--- Every free frame is one of the memory, and none stands twice; the frames without holders are the free ones. There are
--- as many free frames as would be needed if each further holder got a frame of its own.
+-- Every free frame is one of the memory, and none occurs twice; the frames without holders are the free ones.
+-- There are at least as many free frames as would be needed if each further holder got a frame of its own.
 pub record IsFreeList (m : List (List ℕ)) (s : Frames) : Type 0 where
   pub inside : (f : ℕ) → among f (free_of m s) ≡ true → f < length m
   pub distinct : IsDistinct nat_eq (free_of m s)
@@ -49,7 +49,7 @@ pub record IsFreeList (m : List (List ℕ)) (s : Frames) : Type 0 where
   pub sum : s.shared ≡ sum_by less_one s.holders.items
   pub room : s.shared ≤ length (free_of m s)
 
--- the memory is the same but for the bytes of these frames
+-- the memory is the same except for the bytes of these frames
 pub record SameBut (fs : List ℕ) (old new : List (List ℕ)) : Type 0 where
   pub count : length new ≡ length old
   pub others : (g : ℕ) → among g fs ≡ false → frame_of new g ≡ frame_of old g

@@ -27,7 +27,7 @@ pub struct Frames {
     shared: u32,
 }
 
-// A count of 1 for so many frames. All memory for it is asked for at once.
+// A count of 1 for each of `n` frames. All memory for it is asked for at once.
 fn one_holder_each(alloc: Global, n: u32) -> Result<Vec<u16>, AllocError>
     ensures { IfOk result (λ counts. counts.items ≡ replicate n 1) }
 {
@@ -211,8 +211,10 @@ impl Frames {
         }
     }
 
-    /// Takes a holder away from a frame that has two or more, and gives that holder a free frame in its place, whose
-    /// bytes may be anything. There always is one, and `free` stays.
+    /// Takes a holder away from a frame that has two or more, and gives that holder a free frame instead, whose bytes
+    /// may be
+    /// anything.
+    /// There always is one, and `free` stays.
     pub fn split(&mut self, ram: &Ram, frame: FrameNo) -> FrameNo
         requires valid { IsFreeList ram.now self.old }
         requires shared { 2 ≤ holders_of ram.now self.old frame.0 }

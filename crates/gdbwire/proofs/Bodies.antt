@@ -121,7 +121,7 @@ ends-body : (total : ℕ) (body : List ℕ) → hears (at Body total body) 35 �
 unfolding inside
 ends-body total body = refl
 
--- the sum behind a body
+-- the sum after a body
 sum-heard : (total : ℕ) (body rest : List ℕ) → total < 256 →
     hears_all (at Body total body) (35 ∷ hex_byte total ++ rest) ≡ (Packet, body)
     ∷ hears_all (at Between total body) rest

@@ -38,7 +38,7 @@ unfolding number_from
 no-number [] = refl
 no-number (_ ∷ _) = refl
 
--- behind the last digit the number is whole
+-- after the last digit the number is whole
 pub whole : (n : ℕ) → number_from (Some n) [] ≡ Some n
 unfolding number_from
 whole n = refl

@@ -9,7 +9,7 @@ const MINUS_ONE: u64 = u64::MAX;
 // Where a file of the assembler has its program.
 const PROGRAM_AT: usize = 4096;
 
-// The number of s2, behind which s3 to s11 follow.
+// The number of s2, after which s3 to s11 follow.
 const S2: usize = 18;
 
 // A program, and what it does with these keys typed first: what is printed, the status with which it ends, and its

@@ -12,7 +12,7 @@
 //! | `pieces` | each piece from the beginning of an image on |
 //! | `bits N` | the image with a bit turned, each N-th of its first blocks |
 //!
-//! The line is printed again with `: well` behind it; the first case that goes wrong ends the program.
+//! The line is printed again with `: well` after it; the first case that goes wrong ends the program.
 #![tactic(auto)]
 
 mod arguments;

@@ -124,7 +124,7 @@ impl Place<'_> {
         }
     }
 
-    // Whether its name is one: not empty, without a slash, without a byte behind a zero, and neither "." nor "..".
+    // Whether its name is one: not empty, without a slash, without a byte after a zero, and neither "." nor "..".
     fn has_name(&self) -> bool {
         let all = self.name();
         let length = name_length(all);

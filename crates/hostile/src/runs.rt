@@ -51,7 +51,7 @@ pub struct Shown {
     pub seen: Option<Seen>,
 }
 
-// The keys, and all steps and ticks behind them.
+// The keys, and all steps and ticks after them.
 fn go(machine: &mut AnyMachine<'_>, keys: &[u8], out: &mut Writer<Vec<u8>>) -> (u32, Option<Halt>) {
     for key in keys {
         let _ = machine.step(Event::Key(*key), out);

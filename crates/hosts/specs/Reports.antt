@@ -1,4 +1,4 @@
--- What the program tells of how a job ended: the status, and the numbers and names of the faults.
+-- What the program reports of how a job ended: the status, and the numbers and names of the faults.
 use Rattle.std.specs.Prelude.{Bool, Err, List, Ok, Result, codes, false, true, ℕ}
 use Rattle.calls.specs.declared.halt.Halt.{Halt}
 use Rattle.calls.specs.declared.halt.Halt.TheVariants as halt
@@ -81,7 +81,7 @@ make_name make.Parent = codes "Parent"
 make_name make.Numbers = codes "Numbers"
 make_name make.NoMemory = codes "NoMemory"
 
--- an image that is refused is told by its own fault
+-- an image that is refused is reported by its own fault
 abbrev pub boot_number : BootFault → ℕ
 boot_number (boot.Image fault) = image_number fault
 boot_number boot.FrameCount = 2
@@ -96,7 +96,7 @@ boot_name boot.Device = codes "Device"
 boot_name boot.NoMemory = codes "NoMemory"
 boot_name boot.NoInit = codes "NoInit"
 
--- an old image that is refused is told by its own fault
+-- an old image that is refused is reported by its own fault
 abbrev pub migrate_number : MigrateFault → ℕ
 migrate_number (migrate.Image fault) = image_number fault
 migrate_number migrate.Blocks = 2

@@ -15,7 +15,7 @@ pub struct InUse;
 /// Why the last file that could not be read or written could not.
 #[derive(Clone, Copy)]
 pub enum Why {
-    /// The host doesn't tell.
+    /// The host doesn't say.
     Unknown,
     /// Memory was refused.
     NoMemory,
@@ -34,7 +34,7 @@ pub struct Front {
 
 /// The terminal that standard error is.
 pub trait Screen {
-    /// Whether standard output is a terminal, too, so that the console's bytes stand on the same screen.
+    /// Whether standard output is a terminal, too, so that the console's bytes are on the same screen.
     fn has_console(&self) -> bool;
 
     /// How many milliseconds have passed since some moment, always the same.
@@ -116,7 +116,7 @@ pub trait Host {
         Ok(())
     }
 
-    /// Puts bytes behind those of a file that is there.
+    /// Appends bytes to a file that is there.
     fn append(&mut self, _name: &str, _bytes: &[u8]) -> Result<(), HostFault> {
         Err(HostFault)
     }

@@ -1,11 +1,11 @@
-//! Reads and writes a host's files, and tells which of them could not be.
+//! Reads and writes a host's files, and reports which of them could not be read or written.
 ghost use Rattle.std.specs.Prelude.{◌≡◌, ◌≤◌, IfOk, OnOk, vec_len};
 ghost use Rattle.hosts.specs.Files.{Holds, HoldsFront, Writes};
 
 use crate::host::{Front, Host, Why};
 use crate::report::Failure;
 
-// Why a file is not read or written: where memory was refused, that is told in place of the file.
+// Why a file is not read or written: where memory was refused, that is the reason, whatever the file.
 fn refused<'a, H: Host>(host: &H, failure: Failure<'a>) -> Failure<'a> {
     match host.why() {
         Why::NoMemory => Failure::NoMemory,
@@ -62,7 +62,7 @@ pub fn hold<'a, H: Host>(host: &mut H, name: &'a str) -> Result<(), Failure<'a>>
     }
 }
 
-/// Puts bytes behind those of a file.
+/// Appends bytes to a file.
 pub fn append<'a, H: Host>(host: &mut H, name: &'a str, bytes: &[u8]) -> Result<(), Failure<'a>> {
     match host.append(name, bytes) {
         Ok(()) => Ok(()),

@@ -1,4 +1,4 @@
-//! A host's files and disk images, and what is told of a job that is not done.
+//! A host's files and disk images, and what is reported of a job that is not done.
 #![tactic(auto)]
 
 mod host;

@@ -1,4 +1,4 @@
-//! What the program tells of how a job ended.
+//! What the program reports of how a job ended.
 ghost use Rattle.std.specs.Prelude.{◌≡◌};
 ghost use Rattle.hosts.specs.Reports.{assembly_name, assembly_number, boot_name, boot_number, image_name, image_number};
 ghost use Rattle.hosts.specs.Reports.{make_name, make_number, migrate_name, migrate_number, program_name};
@@ -259,7 +259,7 @@ fn program_fault(fault: ElfFault) -> (u8, &'static str)
     }
 }
 
-/// Tells why a job was not done, and answers the status to exit with.
+/// Prints why a job was not done, and returns the status to exit with.
 pub fn tell<E: Write>(failure: &Failure<'_>, stderr: &mut E) -> u8
     ensures { result ≡ 1 }
 {
@@ -267,8 +267,8 @@ pub fn tell<E: Write>(failure: &Failure<'_>, stderr: &mut E) -> u8
     1
 }
 
-/// Writes a text to standard output, and writes that out; where it is not taken, that is told. The answer is the status
-/// to exit with.
+/// Writes a text to standard output, and flushes that; where it is not taken, a line says so.
+/// Returns the status to exit with.
 pub fn print<T: fmt::Display, W: Write, E: Write>(text: &T, stdout: &mut W, stderr: &mut E) -> u8 {
     if write!(stdout, "{text}").is_err() || stdout.flush().is_err() {
         return tell(&Failure::Output, stderr);
@@ -276,8 +276,8 @@ pub fn print<T: fmt::Display, W: Write, E: Write>(text: &T, stdout: &mut W, stde
     0
 }
 
-/// Tells why the words are no job, or the help that they ask for, and answers the status: 0 for help, 2 for words that
-/// are no job, 1 where memory or standard output is wanting.
+/// Prints why the words are no job, or the help that they ask for, and returns the status.
+/// It is 0 for help, 2 for words that are no job, 1 where memory or standard output is wanting.
 pub fn refuse<W: Write, E: Write>(error: &Error, stdout: &mut W, stderr: &mut E) -> u8 {
     if error.kind() == ErrorKind::OutOfMemory {
         return tell(&Failure::NoMemory, stderr);

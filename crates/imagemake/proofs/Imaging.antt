@@ -323,7 +323,7 @@ module _ (entries : List ManifestEntry) (size inodes : ℕ) where
           ∙ ap (λ k. 1024 * k) (ap (λ (t : FileTree). t.size) makes.rest ∙ bare.size);
     }
 
--- ---- behind the root
+-- ---- after the root
 
 module _ {old mid : FileTree} {files : Files} (now : IsNow old mid files) (long : length mid.files ≡ length old.files)
     (entries : List ManifestEntry) where

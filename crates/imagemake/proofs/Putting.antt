@@ -392,7 +392,7 @@ module _ {files : Files} {d : ℕ} (h : HasDirectory files d) (e : Entry) where
   pub named-linked : change_node (put files d named) d more_links ≡ put files d (linked Folder named)
   named-linked = change-is _ d _ named (slot-put files d named within) ∙ set-set files d _ _
 
--- ---- the directory behind reads
+-- ---- the directory after reads
 
 module _ {old mid : FileTree} (now : IsNow old mid old.files) {d : ℕ} where
   abbrev pub room-now : {k : ℕ} → HasRoom old.files d k → HasRoom mid.files d k

@@ -17,7 +17,7 @@ pub struct Spot<'a> {
     pub directory: usize,
     /// The part of the path that leads to it.
     pub above: &'a [u8],
-    /// What the path has behind the next slash.
+    /// What the path has after the next slash.
     pub below: &'a [u8],
 }
 

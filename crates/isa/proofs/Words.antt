@@ -54,11 +54,11 @@ reg_w_fits : (op : RegOpW) → (reg_w_funct3 op < 8) × (reg_w_funct7 op < 128)
 reg_w_fits RegOpW.Addw = (lit< tt, lit< tt)
 reg_w_fits _ = (lit< tt, lit< tt)
 
--- the place of an operation among the possible instructions, by the word that spells it
+-- the index of an operation among the possible instructions, by the word that spells it
 abbrev place : (ℕ → ℕ → ℕ → Instr) → ℕ
 place make = position_or_len (λ i. spell i == spell (make 0 0 0)) (possible 0)
 
--- a value so many times, before what follows
+-- a value n times, before what follows
 abbrev Times : ℕ → Type 0 → Type 0 → Type 0
 Times zero A B = B
 Times (suc n) A B = A × Times n A B

@@ -19,7 +19,7 @@ struct Shown(Instr);
 #[derive(Clone, Copy)]
 pub struct Word(pub u32);
 
-// A number of so many bits, read as signed.
+// A number of `bits` bits, read as signed.
 fn signed(bits: u32, number: u32) -> i32
     requires { (1 ≤ bits) × (bits ≤ 21) × (number < 2 ^ bits) }
     ensures { result ≡ signed bits number }

@@ -60,7 +60,7 @@ not-zero (suc b) h z = absurd (omega (arith, z))
 pub plain : (path : List ℕ) → list_all (λ b. not (b == 0)) path ≡ true → All (λ b. b ≢ 0) path
 plain path h = λ k d within. not-zero (get_or path k d) (AllPass-from_list_all (λ b. not (b == 0)) path h k d within)
 
--- ---- what is told
+-- ---- what is returned
 
 pub told-more : {T E : Type 0} {P Q : T → Type 0} → ((x : T) → P x → Q x) → (r : Result T E) → IfOk r P → IfOk r Q
 told-more more (Ok x) h = more x h

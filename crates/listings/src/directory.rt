@@ -92,7 +92,7 @@ pub fn directory_at<D: BlockDev>(tree: &mut Tree<D>, path: &[u8]) -> Result<usiz
     Ok(number)
 }
 
-// Writes an entry's line: the name in 14 places, the type, the number in 5 and the size in 6.
+// Writes an entry's line: the name in 14 columns, the type, the number in 5 and the size in 6.
 fn write_entry<W: Write>(entry: &Entry, node: InodeStat, out: &mut W) -> io::Result<()> {
     let mut line = [b' '; 14];
     for (place, letter) in line.iter_mut().zip(entry.name()) {
@@ -103,7 +103,7 @@ fn write_entry<W: Write>(entry: &Entry, node: InodeStat, out: &mut W) -> io::Res
     writeln!(out, " {kind} {number:>5} {size:>6}")
 }
 
-/// How many places a directory has.
+/// How many entries a directory has, free ones too.
 pub fn count_places<D: BlockDev>(tree: &mut Tree<D>, directory: usize) -> Result<usize, DeviceFault>
     requires { tree.old.failed ≡ false }
     ensures { OnOk result (tree.new.failed ≡ false) }
@@ -114,7 +114,7 @@ pub fn count_places<D: BlockDev>(tree: &mut Tree<D>, directory: usize) -> Result
     }
 }
 
-/// The entry in a place of a directory, if there is one.
+/// The entry at an index of a directory, if there is one.
 pub fn entry_at<D: BlockDev>(
     tree: &mut Tree<D>,
     directory: usize,
@@ -129,7 +129,7 @@ pub fn entry_at<D: BlockDev>(
     Ok((entry.number > 0).then_some(entry))
 }
 
-// Writes the line of a place of a directory, if it has an entry; in files at rest each entry names a node.
+// Writes the line of an index of a directory, if it has an entry; in files at rest each entry names a node.
 fn write_place<D: BlockDev, W: Write>(
     tree: &mut Tree<D>,
     directory: usize,

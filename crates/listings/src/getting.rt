@@ -27,9 +27,8 @@ fn bytes_of<D: BlockDev>(
     Ok(bytes)
 }
 
-/// The bytes of the file that a path reaches from the root of a disk, whose image is checked first. A directory is
-/// refused as
-/// `IsDir`; where nothing or a device stands the file is `NotFound`.
+/// The bytes of the file that a path reaches from the root of a disk, whose image is checked first.
+/// A directory is refused as `IsDir`; where there is nothing, or a device, the file is `NotFound`.
 pub fn read_file<D: BlockDev + Drop>(
     alloc: Global,
     disk: D,

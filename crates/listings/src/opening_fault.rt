@@ -10,7 +10,7 @@ use tree::TreeFault;
 pub enum OpeningFault {
     /// The image is refused.
     Image(ImageFault),
-    /// The path is no file's, or none can stand there.
+    /// The path is no file's, or none can be there.
     Tree(TreeFault),
     /// The host has no memory for the file.
     NoMemory,

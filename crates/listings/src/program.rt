@@ -7,7 +7,7 @@ use std::alloc::Global;
 use std::io::Write;
 use std::{fmt, io};
 
-/// Why the instructions of a program file can't be told.
+/// Why the instructions of a program file can't be listed.
 #[derive(Clone, Copy)]
 pub enum ProgramFault {
     /// The file is refused.
@@ -27,7 +27,7 @@ impl From<ElfFault> for ProgramFault {
     }
 }
 
-// The first bytes of a file, with zeros behind a shorter one.
+// The first bytes of a file, with zeros after a shorter one.
 fn front(file: &[u8]) -> [u8; HEADER_SIZE] {
     let mut front = [0; HEADER_SIZE];
     let known = file.len().min(HEADER_SIZE);
@@ -35,7 +35,7 @@ fn front(file: &[u8]) -> [u8; HEADER_SIZE] {
     front
 }
 
-// What stands in a file from a place on; nothing behind its end.
+// The bytes of a file from an offset on; none after its end.
 fn behind(file: &[u8], at: u64) -> &[u8] {
     file.get(at.min(file.len() as u64) as usize..)
         .unwrap_or(&[])
@@ -61,7 +61,7 @@ pub fn segments(alloc: Global, file: &[u8]) -> Result<Vec<LoadSegment>, ProgramF
     Ok(segments)
 }
 
-// A word that stands at an address, of which the low 32 bits are shown.
+// A word and its address, of which the low 32 bits are shown.
 #[derive(Clone, Copy)]
 struct Line {
     address: u32,

@@ -14,7 +14,7 @@ use tree::{DIRECTORY, Tree};
 #[derive(Clone, Copy)]
 struct Level {
     directory: usize,
-    // The first place that was not looked at.
+    // The first entry that was not looked at.
     place: usize,
     // How many bytes its path has.
     length: usize,
@@ -41,7 +41,7 @@ impl Way {
         Ok(Way { path, levels })
     }
 
-    // Goes on at a place of this directory, after the one of this entry below it.
+    // Goes into this entry's directory; later it goes on at an index of the directory above.
     fn enter(&mut self, level: Level, place: usize, entry: &Entry) -> Result<(), AllocError> {
         self.path.truncate(level.length);
         if self.path.last() != Some(&b'/') {
@@ -63,7 +63,7 @@ fn is_dot(entry: &Entry) -> bool {
     matches!(entry.name(), b"." | b"..")
 }
 
-// The first directory below a directory from a place on, and the place behind its entry.
+// The first directory in a directory from an entry on, and the index after its entry.
 fn next_folder<D: BlockDev>(
     tree: &mut Tree<D>,
     directory: usize,
@@ -129,8 +129,9 @@ fn go_on<D: BlockDev, W: Write>(
 }
 
 /// Writes the directory that a path reaches from the root of a disk, whose image is checked first, and all directories
-/// below it: of each its path and a line for each entry, as `write_directory` does, with an empty line between two.
-/// Those in a directory come behind it, in the order of its entries, each with those below it.
+/// below it.
+/// Of each it writes its path and a line for each entry, as `write_directory` does, with an empty line between two.
+/// Those in a directory come after it, in the order of its entries, each with those below it.
 pub fn write_tree<D: BlockDev + Drop, W: Write>(
     alloc: Global,
     disk: D,

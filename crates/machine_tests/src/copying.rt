@@ -15,7 +15,7 @@ const STACK: u64 = 0x2000;
 
 const BUFFER: u64 = 0x2800;
 
-// Behind the rows of the family.
+// After the rows of the family.
 const NAME: u64 = 64 + 40 * 11;
 
 // A child reads the console, hands what it read to its parent through a pipe, sleeps and makes a directory; the parent

@@ -82,7 +82,7 @@ static RUNS: [Case; 4] = [
             Page(1, 0, CODE, &[0x23, 0, 1, 0, 0x23, 0, 0, 0]),
         ],
     },
-    // Each page lets a store through where the program may write it, but for those that a fork had.
+    // Each page lets a store through where the program may write it, except those that a fork had.
     Case {
         name: "only pages that a fork had refuse a store",
         size: USUAL,
@@ -151,7 +151,7 @@ fn runs(rt: HostRuntime) {
     run_each(&rt, &RUNS);
 }
 
-// The same behind a fork.
+// The same after a fork.
 const FORKING: [[u64; 4]; 10] = [
     [0, 0, 0, FORK],
     [NAME_OF_4, NEW, 0, OPEN],

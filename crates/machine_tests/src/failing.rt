@@ -64,7 +64,7 @@ fn flat_tree(alloc: Global, good: u64) -> Option<Tree<FailAt<MemDisk>>>
     }
 }
 
-// What a machine is asked for behind each event.
+// What a machine is asked for after each event.
 #[derive(Clone, Copy)]
 enum Asked {
     Nothing,

@@ -9,12 +9,12 @@ const DONE: (u64, u32) = (0, 55);
 
 const REFUSED: (u64, u32) = (MINUS_ONE, 55);
 
-// "n" and "m" behind thirteen calls
+// "n" and "m" after thirteen calls
 const FIRST: u64 = 416;
 
 const SECOND: u64 = 424;
 
-// "d", "x", "." and ".." behind twenty calls, and then "d/.", "d/n", "n" and "/"
+// "d", "x", "." and ".." after twenty calls, and then "d/.", "d/n", "n" and "/"
 const D: u64 = 608;
 
 const X: u64 = 616;
@@ -31,7 +31,7 @@ const N: u64 = 656;
 
 const ROOT: u64 = 664;
 
-// "n" behind four rows
+// "n" after four rows
 const ONLY: u64 = 184;
 
 static RUNS: [Case; 3] = [

@@ -72,7 +72,7 @@ pub(crate) const READING: ProcessState = ProcessState::Waiting(READ as u32);
 
 pub(crate) const WRITING: ProcessState = ProcessState::Waiting(WRITE as u32);
 
-// Makes one call after the other, as a table behind the instructions says: a0, a1, a2 and a7 of each.
+// Makes one call after the other, by a table after the instructions: a0, a1, a2 and a7 of each.
 const CALLER: [u32; 8] = [
     0x0200_0293, // addi t0, zero, 32
     0x0002_b503, // ld   a0, 0(t0)
@@ -87,8 +87,8 @@ const CALLER: [u32; 8] = [
 /// The steps of a list of calls to the first answer, and from one answer to the next.
 pub(crate) const NEXT_CALL: usize = 7;
 
-// Makes one call after the other, as rows behind the instructions say: a0, a1, a2 and a7 of each, and the address of
-// the row that is next where the answer is 0.
+// Makes one call after the other, by rows after the instructions.
+// A row has a0, a1, a2 and a7, and the address of the row that is next where the call returns 0.
 const FAMILY: [u32; 11] = [
     0x0400_0293, // addi t0, zero, 64
     0x0002_b503, // ld   a0, 0(t0)
@@ -130,7 +130,7 @@ pub(crate) struct Row(pub(crate) [u64; 4], pub(crate) u64);
 /// A program.
 #[derive(Clone, Copy)]
 pub(crate) enum Program<'a> {
-    /// Instructions, and the bytes behind them.
+    /// Instructions, and the bytes after them.
     Words(&'a [u32], &'a [u8]),
     /// Calls, one after the other: a0, a1, a2 and the number of each.
     Calls(&'a [[u64; 4]]),
@@ -169,7 +169,7 @@ pub(crate) enum Act<'a> {
     Runs(&'a [Event], Option<Halt>),
     /// What the next calls of a list answer.
     Answers(&'a [u64]),
-    /// The same, and how many frames are free behind each.
+    /// The same, and how many frames are free after each.
     Answered(&'a [(u64, u32)]),
     /// What was printed so far.
     Printed(&'a [u8]),
@@ -193,7 +193,7 @@ pub(crate) enum Act<'a> {
     Gone(u32),
     /// The least pid above this one.
     Next(u32, Option<u32>),
-    /// What the first descriptors of a process name, behind which all are free; its directory; and the call that it
+    /// What the first descriptors of a process name, after which all are free; its directory; and the call that it
     /// waits in.
     Holds(u32, &'a [Option<u8>], u32, Option<Pending>),
     /// What the open file with this number is open on, whether for reading and for writing, and how many descriptors
@@ -207,7 +207,7 @@ pub(crate) enum Act<'a> {
     Idle(bool, bool),
     /// The bytes from an address of a process on.
     Bytes(u32, u64, &'a [u8]),
-    /// The marks of a page of a process, and its first bytes, behind which all are zero.
+    /// The marks of a page of a process, and its first bytes, after which all are zero.
     Page(u32, u64, Perm, &'a [u8]),
     /// There is no such page of this process.
     NoPage(u32, u64),
@@ -457,7 +457,7 @@ impl<T: Translate> Play<T> {
         }
     }
 
-    // Whether these are the first descriptors of a process, behind which all are free, with its directory and its call.
+    // Whether these are the first descriptors of a process, after which all are free, with its directory and its call.
     fn keeps(
         &self,
         pid: u32,

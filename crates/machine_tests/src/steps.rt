@@ -127,7 +127,7 @@ const PRINTS: &str = "
         ecall
 ";
 
-// The last word of its page, behind which nothing can be fetched.
+// The last word of its page, after which nothing can be fetched.
 const RUNS_OFF: &str = "
         j last
         .zero 4088
@@ -153,8 +153,9 @@ const STUMBLES: &str = "
         .zero 4
 ";
 
-// A program, how many steps it takes before the one at which process 1 ends, its status then, and counts of steps:
-// none, and those that end just before and just behind a trap or the end of a page, or go on behind the last step.
+// A program, how many steps it takes before the one at which process 1 ends, its status then, and counts of steps.
+// These are none, those that end just before and just after a trap or the end of a page, and those that go on after the
+// last step.
 type Course = (&'static str, u32, i32, &'static [u32]);
 
 const COURSES: [Course; 4] = [

@@ -1,4 +1,4 @@
--- The names that the lemmas of this crate import from elsewhere, passed on from one place. Declares nothing.
+-- The names that the lemmas of this crate import from other crates, passed on here. Declares nothing.
 pub use Rattle.std.proofs.Common.{◌+◌, ◌++◌, ◌<◌, ◌==◌, [], ap, arith, cond, Err, inl, inr, length, List, None, Ok}
 pub use Rattle.std.proofs.Common.{Option, refl, Result, Some, subst, sum_by, sym, ℕ, ◌∙◌, ◌≡◌, ◌≢◌, ◌≤◌}
 pub use Rattle.std.proofs.lemmas.Bool.{cases_lt, false≢true}

@@ -220,7 +220,7 @@ module _ (old : List ℕ) (d : DenotesSmall old (files_in old)) (g : Geometry) (
     inodes-migrated = sym (legible stored.geometry blocks stored.sound).inodes ∙ sym (length-nodes_of _ _)
         ∙ stored.nodes.count ∙ count-files old d g has ∙ has.inodes
 
--- ---- what is told of an image that isn't migrated
+-- ---- what is returned for an image that isn't migrated
 
 pub not_err : {T E : Type 0} (x : T) (e : E) → ◌≡◌ {A = Result T E} (Ok x) (Err e) → ⊥
 not_err x e h = cc

@@ -38,17 +38,17 @@ pub record Copies {D : Type 0} (g : Geometry) (s : Store D) (files : Files) : Ty
   pub up : s.failed ≡ false
   pub stores : Stores s files
 
--- so it does behind a step, unless the files lack blocks
+-- so it does after a step, unless the files lack blocks
 abbrev pub IsCopied : {D : Type 0} → Geometry → Store D → Files → Result (Unit {0}) MigrateFault → Type 0
 IsCopied g s files result = MatchResult result (λ _. Copies g s files) (Lacks g files)
 
--- a node of an old image that can stand in the new one
+-- a node of an old image that the new one can hold
 pub record CanStand (old : List ℕ) (n : ℕ) (node : Node) : Type 0 where
   pub is : IsNode old n node
   pub short : size_of node ≤ longest
   pub fits : FitsPlaces (Some node)
 
--- a node of an old image stands at number n, which was free, or there are too few blocks for it
+-- a node of an old image is at number n, which was free, or there are too few blocks for it
 abbrev pub CopiesNode : {D : Type 0} → Geometry → List ℕ → Store D → Store D → ℕ → Result (Unit {0}) MigrateFault
     → Type 0
 CopiesNode g old before after n result =

@@ -427,7 +427,7 @@ unfolding all_opened
 console_bits b l = same-at (bit_of console_image) (λ n. nat_lt n 5 || is_named console_image n) 0 32 b refl
     (omega arith) l
 
--- of at most 11 blocks the spare numbers are direct ones behind them, and those of the index blocks
+-- of at most 11 blocks the spare numbers are direct ones after them, and those of the index blocks
 spare_own : (count k : ℕ) → count ≤ 11 → IsSpare large count k → in_record large k ≡ true
 unfolding in_record holder_of first_of
 spare_own count k few s = by_place (in_record large k) refl where

@@ -427,7 +427,7 @@ faults_and_texts : record {
       ++ object (codes "# " ++ 0xc3 ∷ 0xa9 ∷ []) ∷ []
       ≡ map refused (Range ∷ Mnemonic ∷ Label ∷ Syntax ∷ Operand ∷ Operand ∷ Align ∷ Range ∷ Align ∷ Range ∷ Range
       ∷ Syntax ∷ []);
-  -- an instruction behind one byte; a label twice, of which the first counts; a label whose line can't be read is
+  -- an instruction after one byte; a label twice, of which the first counts; a label whose line can't be read is
   -- defined
   lines : map object_of (".byte 1\necall\n" ∷ "j x\nx: ecall\nx: ebreak\n" ∷ "j x\nx: foo\n" ∷ "x:\nx: foo\nbar\n"
       ∷ "x:\n.byte 1\nx: ecall\n" ∷ "a: b: ret\n" ∷ "a :\n" ∷ [])

@@ -1,4 +1,4 @@
--- The names that the lemmas of this crate import from elsewhere, passed on from one place. Declares nothing.
+-- The names that the lemmas of this crate import from other crates, passed on here. Declares nothing.
 pub use Rattle.std.proofs.Common.{◌%◌, ◌+◌, ◌++◌, ◌-◌, ◌<◌, ◌==◌, [], All, ap, ap₂, arith, Bool, cond, count_by}
 pub use Rattle.std.proofs.Common.{Decides, Err, false, flat_map, get_or, inl, inr, IsTrue, le_trans, length, List}
 pub use Rattle.std.proofs.Common.{nat_eq, nat_le, nat_lt, None, not, Ok, OnOk, Option, refl, replicate, Result, Some}

@@ -62,7 +62,7 @@ once-first f a m h j low high p q d p_in =
     (IsOnce-apart (f a) rest h p k d p_in k_in) in
     All-one (λ y. get_or (f a) p d ≢ y) f (a + 1) m apart j (omega arith) high q d
 
--- so what stands at two places is the same only where these are
+-- so two indices hold the same only where they are the same
 pub once-places : (f : ℕ → List ℕ) (a m : ℕ) → IsOnce (flat_map f (range_with_len a m)) → (i j : ℕ) → a ≤ i → i < a + m
     → a ≤ j → j < a + m
     → (p q d : ℕ) → p < length (f i) → q < length (f j) → get_or (f i) p d ≡ get_or (f j) q d → (i ≡ j) × (p ≡ q)
@@ -102,7 +102,7 @@ sum-same f g a (suc m) h =
     (sum-same f g (a + 1) m (λ n low high. h n (omega arith) (omega arith)))
     ∙ sym (sum_by-cons g a (range_with_len (a + 1) m))
 
--- and but for one number, which only the first passes
+-- and what is the same except for one number, which only the first passes
 count-but : (p q : ℕ → Bool) (x a m : ℕ) → a ≤ x → x < a + m → p x ≡ true → q x ≡ false → ((n : ℕ) → n ≢ x → p n ≡ q n)
     → count_by p (range_with_len a m) ≡ count_by q (range_with_len a m) + 1
 count-but p q x a zero low high passes fails h = absurd (omega arith)
@@ -146,7 +146,7 @@ count-named (x ∷ xs) a m once within =
     (λ n other. ap (λ b. not (b || list_any (nat_eq n) xs)) (sym (ne_eqb n x other))) in
     omega (arith, rest, but)
 
--- the blocks of a device whose image denotes these files, and the numbers that its super block tells
+-- the blocks of a device whose image denotes these files, and the numbers of its super block
 pub record IsDenoted (g : Geometry) (blocks : List (List ℕ)) (files : Files) : Type 0 where
   pub sizes : AreBlocks blocks
   pub size : g.size ≡ size_in (image_of blocks)

@@ -23,8 +23,9 @@ pub record TellsNumbers (image : List ℕ) (g : Geometry) : Type 0 where
   pub size : g.size ≡ size_in image
   pub inodes : g.inodes ≡ inodes_in image
 
--- the files that the image denotes, and there are no others: they keep the rules of names, each node of them has links,
--- and nobody holds any; an access of the device, which this tells from others, had failed this often before
+-- the files are those that the image denotes, and there are no others
+-- they keep the rules of names, each node of them has links, and nobody holds any
+-- an access of this device, and of no other, had failed this often before
 pub record IsMounted (image : List ℕ) (identity : List ℕ) (failures : ℕ) (tree : FileTree) : Type 0 where
   pub denotes : Denotes image tree.files
   pub only : (files : Files) → Denotes image files → files ≡ tree.files

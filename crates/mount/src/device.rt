@@ -15,7 +15,7 @@ use layout::{Geometry, SuperBlock};
 use std::alloc::Global;
 use tree::Tree;
 
-// The numbers that the super block tells.
+// The numbers of the super block.
 fn read_geometry<D: BlockDev>(device: &mut D) -> Result<Geometry, DeviceFault>
     requires { 2 ≤ length (D.content device.old) }
     ensures numbers { IfOk result (TellsNumbers (image_of (D.content device.old))) }
@@ -44,8 +44,8 @@ pub fn mount<D: BlockDev>(alloc: Global, mut device: D) -> Result<Tree<D>, Image
     Ok(Tree::new(alloc, volume)?)
 }
 
-/// Gives up files in use for their device, whose image denotes them then. Where an access fails it isn't told what the
-/// device has.
+/// Gives up files in use for their device, whose image denotes them then.
+/// Where an access fails, what the device holds is open.
 pub fn unmount<D: BlockDev>(tree: Tree<D>) -> (D, Result<(), DeviceFault>)
     requires up { tree.failed ≡ false }
     requires rules { KeepsTree tree.files }

@@ -1,4 +1,4 @@
--- What the names of a folder hold, and what the steps of putting a file in the place of another make of that.
+-- What the names of a folder hold, and what the steps of replacing a file make of that.
 use Rattle.std.specs.Prelude.{Bool, List, [], None, Option, Some, true, ℕ, ◌++◌, ◌≡◌, ◌≢◌, ◌⊎◌}
 use Rattle.outputs.specs.declared.put.Attempt.{Attempt}
 use Rattle.outputs.specs.declared.put.Attempt.TheVariants.{Put, Taken}
@@ -36,7 +36,7 @@ pub record Begins (name : List ℕ) (old new : Held) : Type 0 where
   pub begun : new.begun ≡ name
   pub sets : Sets name (Some []) old new
 
--- no file is begun, and all is as it was; a name that is told as taken has a file
+-- no file is begun, and all is as it was; a name for which `Taken` is returned has a file
 abbrev pub RefusesName : List ℕ → StepFault → Held → Held → Type 0
 RefusesName name step.Taken old new = IsSame old new × (old.bytes name ≢ None)
 RefusesName name _ old new = IsSame old new
@@ -50,7 +50,7 @@ pub record Writes (bytes : List ℕ) (old new : Held) : Type 0 where
 abbrev pub Spoils : Held → Held → Type 0
 Spoils old new = IsBut old.begun old new
 
--- what was written stands on the disk
+-- what was written is on the disk
 pub record Syncs (old new : Held) : Type 0 where
   pub same : IsSame old new
   pub synced : new.synced ≡ true
@@ -101,7 +101,7 @@ Known relation None (Some new) = ⊥
 Known relation (Some old) None = ⊥
 Known relation (Some old) (Some new) = relation old new
 
--- what was written to the file that was begun last stands on the disk, where that is known
+-- what was written to the file that was begun last is on the disk, where that is known
 abbrev pub IsSynced : Option Held → Type 0
 IsSynced None = Unit {0}
 IsSynced (Some held) = held.synced ≡ true

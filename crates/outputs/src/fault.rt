@@ -11,7 +11,7 @@ pub enum StepFault {
     Failed,
 }
 
-/// Why a file was not put in the place of another.
+/// Why a file was not replaced.
 #[derive(Clone, Copy, Debug, PartialEq, Eq)]
 pub enum PutFault {
     /// There was no memory for the name of a new file.

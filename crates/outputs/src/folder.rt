@@ -1,4 +1,4 @@
-//! The folder in which a file is put in the place of another.
+//! The folder in which a file is replaced.
 ghost use Rattle.std.specs.Prelude.{◌≢◌, IfErr, None, OnErr, OnOk, Option, Some};
 ghost use Rattle.outputs.specs.Steps.{Begins, Held, IsSame, IsSynced, Known, Moves, RefusesName, Sets, Spoils};
 ghost use Rattle.outputs.specs.Steps.{SweepsAt, Syncs, Writes};
@@ -16,8 +16,8 @@ pub enum Swept {
     Kept,
 }
 
-/// A folder: files by their names, of which the one that was begun last can be written. A step that is refused changes
-/// nothing, but for a write, which may have written a part.
+/// A folder: files by their names, of which the one that was begun last can be written.
+/// A step that is refused changes nothing, except a write, which may have written a part.
 pub trait Folder {
     /// What the names hold, where that is known.
     ghost held: { Self → Option Held } = { λ _. None };
@@ -32,13 +32,15 @@ pub trait Folder {
         ensures ok { OnOk result (Known (Writes bytes.now) (held self.old) (held self.new)) }
         ensures err { OnErr result (Known Spoils (held self.old) (held self.new)) };
 
-    /// Waits until what was written to the file that was begun last stands on the disk.
+    /// Waits until what was written to the file that was begun last is on the disk.
     fn sync_all(&mut self) -> Result<(), StepFault>
         ensures ok { OnOk result (Known Syncs (held self.old) (held self.new)) }
         ensures err { OnErr result (Known IsSame (held self.old) (held self.new)) };
 
-    /// Gives the file that was begun last, and stands on the disk, another name, in place of the file that has it, if
-    /// there is one: at no moment has neither the name.
+    /// Gives the file that was begun last, and is on the disk, another name, and replaces the file that has it, if
+    /// there is
+    /// one.
+    /// At no moment has neither the name.
     fn rename(&mut self, one: &str, other: &str) -> Result<(), StepFault>
         requires apart { one.now ≢ other.now }
         requires synced { IsSynced (held self.old) }

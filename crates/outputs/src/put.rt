@@ -1,4 +1,4 @@
-//! Puts a file in the place of another.
+//! Replaces a file by another one.
 ghost use Rattle.std.specs.Prelude.{◌≢◌, IfErr, IfOk, OnErr, OnOk, Some};
 ghost use Rattle.outputs.specs.Steps.{Ends, GivesUp, Keeps, Known, Sets, Spoils, Sweeps, Tries};
 
@@ -49,7 +49,7 @@ fn give_up<F: Folder>(folder: &mut F, begun: &str, fault: StepFault) -> PutFault
     }
 }
 
-// Puts the bytes in the place of the file of this path, by a new file of this name.
+// Replaces the file of this path by the bytes, by way of a new file of this name.
 fn put_by<F: Folder>(
     folder: &mut F,
     begun: &str,
@@ -98,9 +98,10 @@ pub fn sweep<F: Folder>(alloc: Global, folder: &mut F, path: &str)
     }
 }
 
-/// Puts the bytes in the place of the file of this path, if there is one, by a new file in its folder: the name has the
-/// old file or the new one, and after a fault the old one. The new file is removed where a step fails; only where that
-/// fails too (`Left`) it stays. Names that are taken, as by files that a program left that was killed, are passed over.
+/// Replaces the file of this path, if there is one, by the bytes, by way of a new file in its folder.
+/// At each moment the name has the old file or the new one, and after a fault the old one.
+/// The new file is removed where a step fails; only where that fails too (`Left`) it stays.
+/// Names that are taken, as by files that a killed program left, are passed over.
 pub fn replace<F: Folder>(
     alloc: Global,
     folder: &mut F,

@@ -131,7 +131,7 @@ enum Ending {
     Denied,
 }
 
-// Puts the bytes in the place of the file of this path, which is the one that is told, or of none.
+// Writes the file of this path, whose metadata are `old` if there is one.
 fn replace_file<R: Files<File = File> + AllocGlobal>(
     rt: &R,
     path: &str,

@@ -1,4 +1,4 @@
--- The names that the lemmas of this crate import from elsewhere, passed on from one place. Declares nothing.
+-- The names that the lemmas of this crate import from other crates, passed on here. Declares nothing.
 pub use Rattle.std.proofs.Common.{◌%◌, ◌+◌, ◌++◌, ◌-◌, ◌<◌, [], ap, append-nil, append_assoc, ap₂, arith, drop, get_or}
 pub use Rattle.std.proofs.Common.{get_or-set_same, inl, inr, length, length-take, List, min, mod-eq_of_lt, refl}
 pub use Rattle.std.proofs.Common.{replicate, set, slice_set, suc, sym, take, zero, ℕ, ◌∙◌, ◌∷◌, ◌≡◌, ◌≤◌}

@@ -68,7 +68,7 @@ read-rest x k n c {t} count = ring-wrap x (k + t) (n - t) ∙ sym (drop-ring 512
 pub read-nothing : (x : List ℕ) (k : ℕ) {n : ℕ} (c : ℕ) → n ≡ 0 → ring 512 x k n ≡ drop c (ring 512 x k n)
 read-nothing x k {n} c h = ring-none x k n h ∙ sym (drop-ring _ x k c n ∙ ring-none x _ (n - c) (omega arith))
 
--- bytes that stand before the end of the room
+-- bytes that lie before the end of the room
 pub ring-straight : (x : List ℕ) (k n : ℕ) → 512 ≤ length x → k + n ≤ 512 → ring 512 x k n ≡ take n (drop k x)
 unfolding ring
 ring-straight x k zero full h = refl

@@ -1,4 +1,4 @@
--- A pipe: where its bytes stand in a memory, and which of its ends are open.
+-- A pipe: where its bytes are in a memory, and which of its ends are open.
 use Rattle.std.specs.Prelude.{Bool, List, [], false, length, take, ℕ, ◌++◌, ◌-◌, ◌∷◌, ◌≡◌}
 use Rattle.ram.specs.Memory.{frame_of}
 use Rattle.unixmodel.specs.OpenFiles.{pipe_room}
@@ -17,7 +17,7 @@ pub record Pipe : Type 0 where
 abbrev pub bytes_of : List (List ℕ) → Pipe → List ℕ
 bytes_of m p = ring pipe_room (frame_of m p.frame) p.from p.held
 
--- so many bytes of the ring in a frame, from a place on
+-- `held` bytes of the ring in a frame, from an index on
 abbrev pub ring_in : List (List ℕ) → ℕ → ℕ → ℕ → List ℕ
 ring_in m frame from held = ring pipe_room (frame_of m frame) from held
 
@@ -25,7 +25,7 @@ ring_in m frame from held = ring pipe_room (frame_of m frame) from held
 abbrev pub fitting : List (List ℕ) → Pipe → List ℕ → List ℕ
 fitting m p new = take (pipe_room - length (bytes_of m p)) new
 
--- its bytes, and behind them what fits
+-- its bytes, and after them what fits
 abbrev pub joined : List (List ℕ) → Pipe → List ℕ → List ℕ
 joined m p new = bytes_of m p ++ fitting m p new
 

@@ -16,7 +16,7 @@ use std::marker::Model;
 /// How many bytes a pipe holds at the most.
 pub const ROOM: usize = 512;
 
-/// A pipe. Its bytes stand in a ring at the beginning of a frame, and it says where and which ends are open.
+/// A pipe. Its bytes are in a ring at the beginning of a frame, and it says where they begin and which ends are open.
 #[derive(Clone, Copy)]
 pub struct Pipe {
     frame: FrameNo,
@@ -46,7 +46,7 @@ impl Model for Pipe {
     } };
 }
 
-// Puts bytes behind those that a ring holds.
+// Puts bytes after those that a ring holds.
 fn append(places: &mut [u8; FRAME_SIZE], from: usize, held: usize, bytes: &[u8])
     requires from { from < 512 }
     requires room { held + length bytes.now ≤ 512 }
@@ -118,7 +118,7 @@ impl Pipe {
         }
     }
 
-    /// The bytes that it holds, the oldest first: those of the second slice stand behind those of the first.
+    /// The bytes that it holds, the oldest first: those of the second slice follow those of the first.
     pub fn bytes<'a>(&self, ram: &'a Ram) -> (&'a [u8], &'a [u8])
         requires { self.now.frame < length ram.now }
         ensures { result.0.now ++ result.1.now ≡ bytes_of ram.now self.now }
@@ -147,7 +147,7 @@ impl Pipe {
         self.held < ROOM || !self.read_open
     }
 
-    /// Puts in of these bytes what fits, and tells how many. `None` where no read end is open.
+    /// Puts in what fits of these bytes, and returns how many. `None` where no read end is open.
     pub fn write_some(&mut self, ram: &mut Ram, bytes: &[u8]) -> Option<usize>
         requires { self.old.frame < length ram.old }
         ensures refused { IsNone result ↔ self.old.read_open ≡ false }
@@ -167,8 +167,9 @@ impl Pipe {
         Some(count)
     }
 
-    /// Takes bytes into a buffer, as many as there are and fit, and tells how many: none at the end, where no byte is
-    /// there and no write end is open. `None` where the reader has to wait.
+    /// Takes bytes into a buffer, as many as there are and fit, and returns how many.
+    /// It takes none at the end, where no byte is there and no write end is open.
+    /// `None` where the reader has to wait.
     pub fn read_some(&mut self, ram: &Ram, buffer: &mut [u8]) -> Option<usize>
         requires { self.old.frame < length ram.now }
         ensures waits { IsNone result ↔ ((bytes_of ram.now self.old ≡ []) × (self.old.write_open ≡ true)) }
@@ -189,7 +190,7 @@ impl Pipe {
         Some(count)
     }
 
-    /// Closes an end, and tells whether none is open any more.
+    /// Closes an end, and returns whether none is open any more.
     pub fn close_end(&mut self, end: End) -> bool
         ensures closed { self.new ≡ closed self.old end }
         ensures last { result ≡ not (self.new.read_open || self.new.write_open) }

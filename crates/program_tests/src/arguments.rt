@@ -16,7 +16,7 @@ const HEAP: Perm = Perm {
     u: true,
 };
 
-// Where the string stands at which all words of argv point.
+// The address of the string to which all words of argv point.
 const STRING: u64 = 4096;
 
 fn expect_space(rt: &impl Abort, spaces: &Spaces<Plain>)
@@ -36,7 +36,7 @@ fn write(rt: &impl Abort, spaces: &mut Spaces<Plain>, address: u64, bytes: &[u8]
     assert!(rt; spaces.write(0, address, bytes));
 }
 
-// Place 0 with three pages.
+// Slot 0 with three pages.
 fn place(rt: &(impl Abort + AllocGlobal)) -> Spaces<Plain> {
     let ram = Ram::new(rt.alloc(), 64).expect(rt, "frames");
     let mut spaces = Spaces::new(rt.alloc(), ram, Plain::new()).expect(rt, "counts");
@@ -47,8 +47,9 @@ fn place(rt: &(impl Abort + AllocGlobal)) -> Spaces<Plain> {
     spaces
 }
 
-// What a program of one page gets where argv, at address 0, has so many words, each of which points at a string of so
-// many bytes.
+// What a program of one page gets where argv, at address 0, has `words` words, each of which points to a string of
+// `len`
+// bytes.
 fn arguments(rt: &(impl Abort + AllocGlobal), words: u64, len: usize) -> Option<Arguments> {
     let mut spaces = place(rt);
     let string = [b'a'; 4080];
@@ -94,7 +95,7 @@ fn refuses_argv_that_is_not_readable(rt: HostRuntime) {
     }
 }
 
-// A program of so many pages.
+// A program of `pages` pages.
 fn program(pages: u64) -> Program
     ensures { result.pages ≡ pages }
 {

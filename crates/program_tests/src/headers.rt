@@ -10,7 +10,7 @@ fn put(bytes: &mut [u8], words: &[u64]) {
     }
 }
 
-// The header of a file with so many program headers from a place on, whose entry is 6.
+// The header of a file with `count` program headers from an offset on, whose entry is 6.
 fn header_with(program_headers: u64, count: u16) -> [u8; HEADER_SIZE] {
     let mut bytes = [0; HEADER_SIZE];
     put(

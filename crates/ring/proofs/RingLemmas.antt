@@ -18,7 +18,7 @@ take-ring room xs k (suc m) zero h = absurd (omega arith)
 take-ring room xs k (suc m) (suc n) h =
     ap (λ l. get_or xs (k % room) 0 ∷ l) (take-ring room xs (k + 1) m n (omega arith))
 
--- one part of a ring, and the part behind it
+-- one part of a ring, and the part after it
 pub ring-append : (room : ℕ) (xs : List ℕ) (k n m t : ℕ) → t ≡ n + m
     → ring room xs k t ≡ ring room xs k n ++ ring room xs (k + n) m
 unfolding ring
@@ -32,7 +32,7 @@ ring-append room xs k (suc n) m (suc t) h =
     ap (λ l. get_or xs (k % room) 0 ∷ l)
     (ring-append room xs (k + 1) n m t (omega arith) ∙ ap (λ j. ring room xs (k + 1) n ++ ring room xs j m) a)
 
--- parts are the same where their places hold the same
+-- parts are the same where their slots hold the same
 pub ring-same : (room : ℕ) (xs ys : List ℕ) (k j n : ℕ)
     → ((i : ℕ) → i < n → get_or xs ((k + i) % room) 0 ≡ get_or ys ((j + i) % room) 0)
     → ring room xs k n ≡ ring room ys j n
@@ -57,7 +57,7 @@ ring-around room xs k m n =
     ap (λ i. get_or xs (i % room) 0) (a) ∙ ap (λ i. get_or xs i 0) (mod-add-mod k room (m + i))
     ∙ ap (λ i. get_or xs (i % room) 0) b)
 
--- a place below twice the room wraps once at most
+-- an index below twice the room wraps once at most
 wraps_once : (room j : ℕ) → j < room + room → ((j < room) × (j % room ≡ j)) ⊎ ((room ≤ j) × (j % room ≡ j - room))
 wraps_once room j h = elim (cases_lt j room) [
   | inl low ↦ inl (low, mod-eq_of_lt low)
@@ -73,7 +73,7 @@ places-apart room a b low near h e =
       | inr p ↦ elim y [ inl q ↦ omega arith | inr q ↦ omega arith ]
     ]
 
--- a write behind a part, and before it comes around, leaves it
+-- a write after a part, and before it comes around, leaves it
 pub ring-set_behind : (room : ℕ) (xs : List ℕ) (k n at b : ℕ) → k + n ≤ at → at < k + room → at < room + room
     → ring room (set xs (at % room) b) k n ≡ ring room xs k n
 ring-set_behind room xs k n at b low near h =
@@ -81,7 +81,7 @@ ring-set_behind room xs k n at b low near h =
     (λ i l. get_or-set_other xs (at % room) ((k + i) % room) b 0
     (places-apart room (k + i) at (omega arith) (omega arith) h))
 
--- a byte that is written right behind a part makes it longer
+-- a byte that is written right after a part makes it longer
 pub ring-push : (room : ℕ) (xs : List ℕ) (k n at b : ℕ) → room ≤ length xs → at ≡ k + n → n < room → at < room + room
     → ring room (set xs (at % room) b) k (n + 1) ≡ ring room xs k n ++ b ∷ []
 unfolding ring

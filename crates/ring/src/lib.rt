@@ -1,3 +1,3 @@
-//! Rings: how bytes stand in places that are used again and again. The definition and its lemmas, which the console and
-//! the pipes share; each has the code for its own places.
+//! Rings: how bytes lie in slots that are used again and again.
+//! The definition and its lemmas, which the console and the pipes share; each has the code for its own slots.
 #![tactic(auto)]

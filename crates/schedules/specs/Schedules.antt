@@ -49,16 +49,16 @@ unfoldable pub after_steps : ℕ → State → State
 after_steps zero s = s
 after_steps (suc n) s = after_steps n (next s Step).state
 
--- so many instructions
+-- n instructions
 unfoldable pub computed_for : ℕ → Process → Process
 computed_for zero p = p
 computed_for (suc n) p = computed_for n (computed p)
 
--- each of so many steps computes
+-- each of n steps computes
 abbrev pub ComputesFor : ℕ → State → Type 0
 ComputesFor n s = (k : ℕ) → k < n → computes (after_steps k s) ≡ true
 
--- an interrupt after so many steps that compute is an interrupt before the first of them
+-- an interrupt after n steps that compute is an interrupt before the first of them
 abbrev pub TickPassesAll : Type 0
 TickPassesAll = (n : ℕ) (s : State) (i : ℕ) → running s ≡ Some i → ComputesFor n s
     → next (after_steps n s) Tick ≡ quiet (change_process (next s Tick).state i (computed_for n))

@@ -15,11 +15,11 @@ pub enum Kind {
     Plain,
     /// Remembers what its walks found.
     Tlb,
-    /// Remembers what another one answered, which walks each time.
+    /// Remembers what another one returned, which walks each time.
     Recent,
-    /// Remembers what another one answered, which remembers what its walks found.
+    /// Remembers what another one returned, which remembers what its walks found.
     RecentTlb,
-    /// Answers the oldest translation that it may hold, and notes so many pages ahead.
+    /// Returns the oldest translation that it may hold, and notes that many pages ahead.
     Noting(u64),
     /// Walks each time, and counts what it is asked for.
     Counting,

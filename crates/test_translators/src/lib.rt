@@ -1,5 +1,6 @@
-//! Translators that a machine has to bear, for tests and stored runs: one that notes translations, and answers the
-//! oldest that it may hold, one that counts what it is asked for, and any of these and of those of `sv39` as one type.
+//! Translators that a machine has to bear, for tests and stored runs.
+//! One notes translations, and returns the oldest that it may hold; one counts what it is asked for.
+//! Any of these and of those of `sv39` is one type here.
 //! Whatever a translator holds, all that a machine shows is the same.
 #![tactic(auto)]
 

@@ -1,4 +1,4 @@
-//! A translator that notes translations, and answers what it noted for as long as nothing fences it.
+//! A translator that notes translations, and returns what it noted for as long as nothing fences it.
 ghost use Rattle.std.specs.Prelude.{◌≡◌, ◌+◌, ◌-◌, ◌*◌, ◌/◌, ◌%◌, ◌^◌, ◌<◌, ◌≤◌, [], IfOk, IfSome, length};
 ghost use Rattle.std.specs.Result.{result_ok};
 ghost use Rattle.unixmodel.specs.Translation.{HoldsInside, HoldsNothing, IsAnswer, IsKept};
@@ -23,7 +23,7 @@ pub struct Note {
     frame: FrameNo,
 }
 
-// The place of a page's translations for an access in the index.
+// The index of a page's translations for an access.
 fn place(page: u64, access: Access) -> Option<usize>
     ensures { IfSome result (λ at. at < 3 * 32768) }
 {
@@ -65,8 +65,10 @@ fn has_page(ram: &Ram, root: FrameNo, page: u64) -> bool {
     named(ram, low, page % ENTRIES).is_some()
 }
 
-/// Answers the oldest translation that it may hold. At each call it notes the translation that is asked for, and those
-/// of the root's pages from page 0 on, up to the first that isn't mapped.
+/// Returns the oldest translation that it may hold.
+/// At each call it notes the translation that is asked for, and those of the root's pages from page 0 on, up to the
+/// first
+/// that isn't mapped.
 #[derive(Drop)]
 pub struct Noting {
     notes: Vec<Note>,
@@ -76,8 +78,8 @@ pub struct Noting {
 }
 
 impl Noting {
-    /// A translator with no notes, which notes so many pages of a root at the most at each call: with `MOST_PAGES` all
-    /// that a program has.
+    /// A translator with no notes, which notes at most `ahead` pages of a root at each call.
+    /// With `MOST_PAGES` these are all pages that a program has.
     pub fn new(alloc: Global, ahead: u64) -> Noting
         ensures { result.notes.items ≡ [] }
     {
@@ -104,7 +106,7 @@ impl Noting {
         None
     }
 
-    // Room in the index for a page that has none, of which nothing is noted yet: its place there.
+    // Makes room in the index for a page of which nothing is noted yet, and returns its index there.
     fn free_place(&mut self, page: u64, access: Access) -> Option<usize>
         ensures { self.new.notes ≡ self.old.notes }
     {

@@ -17,6 +17,6 @@ pub record IsSameText (text other : CallText) : Type 0 where
   pub shown : text.shown ≡ other.shown
   pub back : string_bytes text.back ≡ string_bytes other.back
 
--- how much of a buffer is shown once so many bytes more were to come where there was room for so many
+-- how much of a buffer is shown once `more` bytes were to come where there was room for `room`
 abbrev pub shown_after : ℕ → ℕ → Shown → Shown
 shown_after room more before = if nat_lt room more then Cut else before

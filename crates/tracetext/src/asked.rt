@@ -44,7 +44,7 @@ pub enum Shown {
     Cut,
 }
 
-/// The arguments of a call: what comes before the bytes of a buffer, these bytes, and what comes behind them.
+/// The arguments of a call: what comes before the bytes of a buffer, these bytes, and what comes after them.
 #[derive(Drop)]
 pub struct CallText {
     pub front: String,
@@ -76,7 +76,7 @@ impl CallText {
         self.back.clear();
     }
 
-    /// Puts these arguments in the place of its own.
+    /// Replaces its arguments by these.
     pub fn copy_from(&mut self, other: &CallText) -> Result<(), AllocError>
         ensures { OnOk result (IsSameText self.new other.now) }
     {
@@ -87,7 +87,7 @@ impl CallText {
         self.back.push_str(other.back.as_str())
     }
 
-    /// Puts bytes behind those of the buffer, as far as so many are shown.
+    /// Appends bytes to those of the buffer, so that at most `most` are shown.
     pub fn add_data(&mut self, bytes: &[u8], most: usize) -> Result<(), AllocError>
         ensures added { OnOk result
             (self.new.«data».items ≡ self.old.«data».items
@@ -106,7 +106,7 @@ impl CallText {
         Ok(())
     }
 
-    /// What a call fills in: the bytes of the buffer and what stands behind them.
+    /// What a call fills in: the bytes of the buffer and what follows them.
     pub fn rest(&self) -> Rest<'_>
         ensures { result.0.now ≡ self.now }
     {

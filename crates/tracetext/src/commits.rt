@@ -14,7 +14,7 @@ pub struct Commit<'a> {
     pub word: u32,
     /// The registers before it.
     pub before: &'a [u64; 32],
-    /// The registers behind it.
+    /// The registers after it.
     pub behind: &'a [u64; 32],
 }
 
@@ -57,7 +57,7 @@ fn store_distance(word: u32) -> u64 {
     distance((word >> 25) << 5 | (word >> 7) % 32)
 }
 
-// An address or a register's value, behind what comes before it.
+// An address or a register's value, after what comes before it.
 fn write_wide<W: fmt::Write>(f: &mut fmt::Formatter<W>, before: &str, value: u64) -> fmt::Result {
     write!(f, "{before}{value:#018x}")
 }
@@ -116,7 +116,7 @@ impl Commit<'_> {
         write_bytes(f, stored)
     }
 
-    // The instruction, and where it stands.
+    // The instruction, and its address.
     fn write_instruction<W: fmt::Write>(&self, f: &mut fmt::Formatter<W>) -> fmt::Result {
         let (core, pc, word) = (self.core, self.pc, self.word);
         write!(f, "core{core:>4}: 0 {pc:#018x} ({word:#010x})")
@@ -144,9 +144,9 @@ impl fmt::Display for Commit<'_> {
 /// A comment on a process.
 #[derive(Clone, Copy)]
 pub enum Note<'a> {
-    /// The call of this number was answered.
+    /// The call of this number returned.
     Answered { number: u32, answer: i64 },
-    /// These bytes stand in its memory now.
+    /// Its memory has these bytes now.
     Memory { address: u64, bytes: &'a [u8] },
     /// How many bytes of memory it has.
     Size(u64),
@@ -176,7 +176,7 @@ fn write_memory<W: fmt::Write>(
     write_bytes(f, bytes)
 }
 
-// What a call was answered.
+// What a call returned.
 fn write_answer<W: fmt::Write>(f: &mut fmt::Formatter<W>, number: u32, answer: i64) -> fmt::Result {
     let name = CallName(number);
     write!(f, "{name} = {answer}")

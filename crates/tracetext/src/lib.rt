@@ -1,6 +1,6 @@
-//! How it is written what a machine does: text in strace's manner, spans in Chrome's JSON, and commits in Spike's form.
+//! How a machine's work is written: text in strace's manner, spans in Chrome's JSON, and commits in Spike's form.
 //!
-//! What is written is told by plain values, so nothing here knows a machine.
+//! What is written is given as plain values, so nothing here knows a machine.
 #![tactic(auto)]
 
 mod asked;

@@ -16,11 +16,11 @@ pub struct Told<'a> {
 /// What becomes of a call.
 #[derive(Clone, Copy)]
 pub enum Outcome {
-    /// It was answered at once, and so were equal ones behind it, so many in all.
+    /// It returned at once, and so did equal ones after it, `times` in all.
     Answered { answer: i64, times: u64 },
     /// It waits.
     Unfinished,
-    /// It was answered in a turn.
+    /// It returned in a turn.
     Resumed(i64),
     /// It doesn't return.
     Left,
@@ -101,7 +101,7 @@ impl Told<'_> {
     }
 }
 
-// The name of a call and its arguments, up to the bracket behind them.
+// The name of a call and its arguments, up to the bracket after them.
 impl fmt::Display for Told<'_> {
     fn fmt<W: fmt::Write>(&self, f: &mut fmt::Formatter<W>) -> fmt::Result {
         let (name, text) = (CallName(self.number), self.text);
@@ -109,12 +109,12 @@ impl fmt::Display for Told<'_> {
     }
 }
 
-// The bracket behind the arguments, and the answer.
+// The bracket after the arguments, and what the call returned.
 fn write_answer<W: fmt::Write>(f: &mut fmt::Formatter<W>, answer: i64) -> fmt::Result {
     write!(f, ") = {answer}")
 }
 
-// Calls in a row that were answered at once.
+// Calls in a row that returned at once.
 fn write_answered<W: fmt::Write>(
     f: &mut fmt::Formatter<W>,
     call: Told<'_>,
@@ -130,7 +130,7 @@ fn write_answered<W: fmt::Write>(
     }
 }
 
-// A read that waits: what it asks for stands in the line that it resumes by.
+// A read that waits: what it asks for is in the line that it resumes by.
 fn write_unread<W: fmt::Write>(f: &mut fmt::Formatter<W>, call: Told<'_>) -> fmt::Result {
     let (name, front) = (CallName(call.number), &call.text.front);
     write!(f, "{name}({front}<unfinished ...>")
@@ -145,7 +145,7 @@ fn write_unfinished<W: fmt::Write>(f: &mut fmt::Formatter<W>, call: Told<'_>) ->
     }
 }
 
-// A call that was answered in a turn, with what it filled in.
+// A call that returned in a turn, with what it filled in.
 fn write_resumed<W: fmt::Write>(
     f: &mut fmt::Formatter<W>,
     call: Told<'_>,

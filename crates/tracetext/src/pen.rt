@@ -24,7 +24,7 @@ pub struct SinkFault;
 
 /// Where the forms of a trace go.
 pub trait Sinks {
-    /// Puts bytes behind those that this form has.
+    /// Appends bytes to those that this form has.
     fn put(&mut self, form: Form, bytes: &[u8]) -> Result<(), SinkFault>;
 }
 

@@ -27,8 +27,8 @@ fn write_byte<W: fmt::Write>(f: &mut fmt::Formatter<W>, byte: u8, next: Option<u
     }
 }
 
-/// Bytes in quotes, as strace writes them: `\n`, `\t`, `\"`, `\\`, and other bytes that are no text in octal. Three
-/// dots stand behind the quotes where more bytes follow that are not shown.
+/// Bytes in quotes, as strace writes them: `\n`, `\t`, `\"`, `\\`, and other bytes that are no text in octal.
+/// Three dots follow the quotes where more bytes follow that are not shown.
 #[derive(Clone, Copy)]
 pub struct Quoted<'a> {
     pub bytes: &'a [u8],
@@ -78,7 +78,7 @@ fn write_spelled<W: fmt::Write>(f: &mut fmt::Formatter<W>, byte: u8) -> fmt::Res
     }
 }
 
-/// Bytes as JSON has them between quotes: those that are no text stand as their octal text, so all is ASCII.
+/// Bytes as JSON has them between quotes: those that are no text are written as their octal text, so all is ASCII.
 #[derive(Clone, Copy)]
 pub struct Spelled<'a>(pub &'a [u8]);
 

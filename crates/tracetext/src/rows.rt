@@ -6,7 +6,7 @@ ghost use Rattle.tracetext.specs.Texts.{IsEmpty};
 use crate::asked::{Asked, CallText, Shown};
 use std::alloc::{AllocError, Global};
 
-/// A call that was answered at once, and how often it came in a row.
+/// A call that returned at once, and how often it came in a row.
 #[derive(Drop)]
 pub struct Row {
     /// How often it came; 0 where no call is held.
@@ -35,7 +35,7 @@ impl Row {
         }
     }
 
-    // Whether the buffers let two calls be told as one: they are equal, or single bytes.
+    // Whether the buffers let two calls be one line: they are equal, or single bytes.
     fn fits(&self, text: &CallText) -> bool
         ensures { IsTrue result → self.now.answer ≢ pos 1 → self.now.text.«data».items ≡ text.now.«data».items }
     {
@@ -61,7 +61,7 @@ impl Row {
             && self.fits(text)
     }
 
-    /// Holds this call in the place of the one before.
+    /// Holds this call instead of the one before.
     pub fn begin(&mut self, asked: &Asked, text: &CallText, answer: i64) -> Result<(), AllocError>
         ensures { OnOk result (Holds self.new asked.now text.now answer) }
     {

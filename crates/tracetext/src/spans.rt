@@ -101,7 +101,7 @@ impl Period {
     }
 }
 
-/// A call that was answered, or ended with its process.
+/// A call that returned, or ended with its process.
 #[derive(Clone, Copy)]
 pub struct Done<'a> {
     pub number: u32,
@@ -139,13 +139,13 @@ impl fmt::Display for Title {
     }
 }
 
-// What an event has behind its numbers.
+// What an event has after its numbers.
 #[derive(Clone, Copy)]
 enum Details<'a> {
     None,
     // The name of a process or a lane.
     Name(&'a [u8]),
-    // The place of a process among the others.
+    // The index of a process among the others.
     Place(u32),
     // A call with its arguments, and its answer.
     Call {
@@ -198,7 +198,7 @@ impl fmt::Display for Details<'_> {
     }
 }
 
-// A member that is a number, where there is one, behind others.
+// A member that is a number, where there is one, after others.
 fn write_number<W: fmt::Write>(
     f: &mut fmt::Formatter<W>,
     key: &str,
@@ -282,7 +282,7 @@ impl<'a> Span<'a> {
         }
     }
 
-    // A process stands at the place of its pid.
+    // A process is sorted by its pid.
     fn place(pid: u32) -> Self {
         Span {
             details: Details::Place(pid),
@@ -321,7 +321,7 @@ impl<'a> Span<'a> {
         }
     }
 
-    /// A call that was not answered, which began at this point.
+    /// A call that didn't return, which began at this point.
     pub fn open(number: u32, since: Point) -> Self
         ensures stands { Stands result (Some since.at) None since.pid (Some since.lane) None }
         ensures title { result.title ≡ Title.Call (record { 0 = number }) }
@@ -429,7 +429,7 @@ impl fmt::Display for Span<'_> {
     }
 }
 
-/// An event behind others: a comma comes before it.
+/// An event after others: a comma comes before it.
 #[derive(Clone, Copy)]
 pub struct Next<'a>(pub Span<'a>);
 
@@ -440,7 +440,7 @@ impl fmt::Display for Next<'_> {
     }
 }
 
-/// A process stands at its place, and its lanes have their names: three events behind others.
+/// A process has its index, and its lanes have their names: three events that follow others.
 #[derive(Clone, Copy)]
 pub struct Lanes(pub u32);
 

@@ -32,7 +32,7 @@ pub struct Wanted {
     pub bytes: usize,
     /// Whether each line of the text begins with the number of its event.
     pub times: bool,
-    /// Whether the text tells who gets the hart, and who loses it to the timer.
+    /// Whether the text says who gets the hart, and who loses it to the timer.
     pub turns: bool,
     /// Whether a commit's core is the pid of its process, and not 0.
     pub core_is_pid: bool,

@@ -59,7 +59,7 @@ impl<'a, R: Files + AllocGlobal> Desk<'a, R> {
         self.perform(&Job::Asm(Asm { text, elf }))
     }
 
-    /// Makes an image of so many blocks and inodes.
+    /// Makes an image of `size` blocks and `inodes` inodes.
     pub fn make(
         &mut self,
         manifest: &str,

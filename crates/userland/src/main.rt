@@ -1,13 +1,14 @@
 //! Sessions at a shell: the programs of `data/` are assembled and put on images, machines boot from these, and what is
 //! typed at their consoles shows what each program does.
 //!
-//! Standard input has sessions, with an empty line between two. The first line of one is its title, the second `boot
-//! IMAGE FRAMES`, and the others are a script as `xv6 flat` takes it. Images are `xv6.img` and `small.img`;
-//! `tests.img`, which has the compiled program `selftest`; `migrated.img`, which was made of an image of the small
-//! format with the files of `xv6.img`; and
-//! `left.img`, which the session before left. Of each
-//! session the title is printed, the console's bytes with a line end behind them, and a line that says how it ended,
-//! how many frames were free then, and what the image that it leaves uses.
+//! Standard input has sessions, with an empty line between two.
+//! The first line of one is its title, the second `boot IMAGE FRAMES`, and the others are a script as `xv6 flat` takes
+//! it.
+//! Images are `xv6.img` and `small.img`; `tests.img`, which has the compiled program `selftest`; `migrated.img`, which
+//! was
+//! made of an image of the small format with the files of `xv6.img`; and `left.img`, which the session before left.
+//! Of each session it prints the title, the console's bytes and a line end, and a line that says how it ended, how many
+//! frames were free then, and what the image that it leaves uses.
 //!
 //! Each is played on six machines, which have to show and to leave the same: over each of five translators, and on a
 //! disk beside a cache without memory.
@@ -37,7 +38,7 @@ use std::rt::Files;
 use sv39::{Plain, Tlb, Translate};
 use test_translators::{Counting, Noting};
 
-/// The programs: each is assembled from the text of this name with `.s` behind it.
+/// The programs: each is assembled from the text of this name with `.s` after it.
 const PROGRAMS: [&str; 11] = [
     "init", "sh", "cat", "echo", "ls", "ln", "rm", "mkdir", "kill", "forktest", "fill",
 ];
@@ -98,7 +99,7 @@ fn play_plainly<T: Translate>(
     Ok((shown, disk.into_bytes()))
 }
 
-// Plays it on a disk behind a cache that takes its memory from this heap.
+// Plays it on a disk below a cache that takes its memory from this heap.
 fn play_behind(
     alloc: Global,
     session: &Session<'_>,
@@ -110,7 +111,7 @@ fn play_behind(
     Ok((shown, disk.into_bytes()?))
 }
 
-// Plays it on a disk behind a cache without memory.
+// Plays it on a disk below a cache without memory.
 fn play_starved(
     alloc: Global,
     session: &Session<'_>,

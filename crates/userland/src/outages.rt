@@ -10,13 +10,13 @@ use std::num::NonZeroU64;
 use sv39::Plain;
 use unixmodel::event::Event;
 
-// A boot reads the whole image: of so many accesses one is tried, up to the last ones of a boot, and then each.
+// A boot reads the whole image: up to its last accesses one in `STRIDE` is tried, and after that each.
 const STRIDE: u64 = 16;
 
 // More accesses than a session makes.
 const ACCESSES: u64 = 20_000;
 
-// The number of the access behind so many.
+// The number of the access after `good` good ones.
 fn access(good: u64) -> NonZeroU64 {
     NonZeroU64::MIN.saturating_add(good)
 }
@@ -38,7 +38,7 @@ enum Course {
 #[derive(Drop)]
 struct Printed {
     bytes: Vec<u8>,
-    // How many bytes there are behind each event.
+    // How many bytes there are after each event.
     counts: Vec<usize>,
 }
 
@@ -69,7 +69,7 @@ impl Printed {
         Ok(Printed { bytes, counts })
     }
 
-    // What the first events print, so many of them.
+    // What the first `events` events print.
     fn by(&self, events: usize) -> &[u8] {
         let last = events.checked_sub(1);
         let count = last.and_then(|last| self.counts.get(last));
@@ -93,7 +93,7 @@ fn go<D: BlockDev>(
     (events.len(), None)
 }
 
-// Whether events are answered by that it has halted.
+// Whether every further event returns `Halted`.
 fn is_still<D: BlockDev>(machine: &mut Machine<D, Plain>, out: &mut Writer<Vec<u8>>) -> bool {
     machine.step(Event::Step, out) == Err(Halt::Halted)
         && machine.run(&[Event::Tick], out) == Err(Halt::Halted)
@@ -170,8 +170,8 @@ impl<'a> Outage<'a> {
         bail!("it never boots")
     }
 
-    // Lets each access behind this one fail, up to where none does. A later access fails no sooner, and each course is
-    // reached.
+    // Lets each access after this one fail, up to where none does.
+    // A later access fails no sooner, and each course is reached.
     fn fail_behind(&self, alloc: Global, booting: NonZeroU64) -> anyhow::Result<()> {
         let mut reached = Course::Boot as u8;
         for more in 1..ACCESSES {
@@ -190,8 +190,9 @@ impl<'a> Outage<'a> {
 }
 
 /// Plays a session once for each access at which its disk may fail, of those that a boot makes for some, and prints its
-/// title. The machine doesn't boot, or halts, or can't be saved, and tells that its device failed; its console has a
-/// beginning of what the whole session prints, up to the end of an event; and it does no more.
+/// title.
+/// The machine doesn't boot, or halts, or can't be saved, and reports that its device failed; and it does no more.
+/// Its console has a beginning of what the whole session prints, up to the end of an event.
 pub fn fail_each<W: Write>(
     alloc: Global,
     session: &Session<'_>,

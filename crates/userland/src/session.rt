@@ -65,7 +65,7 @@ fn commands_of<'a>(alloc: Global, script: &'a str) -> anyhow::Result<Vec<Command
     }
 }
 
-// An event, so many times.
+// An event, `times` times.
 fn repeat(events: &mut Vec<Event>, event: Event, times: u32) -> Result<(), AllocError> {
     for _ in 0..times {
         events.push(event)?;
@@ -108,7 +108,7 @@ pub fn disk_of(alloc: Global, bytes: &[u8]) -> anyhow::Result<MemDisk> {
     Ok(MemDisk::new(Vec::from_slice(alloc, bytes)?)?)
 }
 
-// Does what the commands say: how it ended, and what stands on the console.
+// Does what the commands say, and returns how it ended and what the console shows.
 fn run<D: BlockDev, T: Translate>(
     alloc: Global,
     machine: &mut Machine<D, T>,

@@ -1,4 +1,4 @@
-//! A disk behind a cache that gets no memory for any block.
+//! A disk below a cache that gets no memory for any block.
 ghost use Rattle.std.specs.Prelude.{[]};
 ghost use Rattle.blockdev.specs.Blocks.{blocks_of};
 ghost use Rattle.blockdev.specs.Sizes.{AreBlocks-blocks_of};
@@ -48,7 +48,7 @@ impl<'a> Starved<'a> {
     }
 }
 
-// Compares a disk with the one behind the cache, which agreed or not.
+// Compares a disk with the one below the cache, which agreed or not.
 fn compare(disk: &MemDisk, behind: &MemDisk, agreed: bool) -> anyhow::Result<()> {
     let accesses = disk.reads().wrapping_add(disk.writes());
     ensure!(agreed, "another block without memory");

@@ -20,7 +20,7 @@ struct Entry {
     bytes: Vec<u8>,
 }
 
-// Files by their names; the one that was begun is the last. These steps fail, a write after so many bytes.
+// Files by their names; the one that was begun is the last. These steps fail, a write after `room` bytes.
 #[derive(Drop)]
 struct Shelf<'a> {
     alloc: Global,
@@ -140,8 +140,8 @@ fn shelf_of<'a>(
     Ok(shelf)
 }
 
-// A name, the steps that fail, the fault they tell, what comes of it, what stands under the file's name, and how many
-// files there are.
+// A name, the steps that fail, the fault that they return, what comes of it, the bytes under the file's name, and how
+// many files there are.
 type Row = (
     &'static str,
     &'static [Step],
@@ -151,7 +151,7 @@ type Row = (
     usize,
 );
 
-// How many bytes a write that fails takes, as rows tell it.
+// How many bytes a write that fails takes, as rows print it.
 static ROOMS: [&str; 5] = ["room 0", "room 1", "room 2", "room 3", "room 4"];
 
 static ROWS: [Row; 11] = [
@@ -250,7 +250,7 @@ fn expect_replaced(
     expect_that(rt, name, "what comes of it", same);
 }
 
-// A write that fails takes so many bytes.
+// A write that fails takes `room` bytes.
 fn expect_row(rt: &(impl Abort + AllocGlobal), row: &Row, room: usize) {
     let (subject, fails, fault, told, bytes, count) = *row;
     let name = (subject, ROOMS.get(room).copied().unwrap_or(""));

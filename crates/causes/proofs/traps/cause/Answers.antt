@@ -1,4 +1,4 @@
--- What is answered is what the cycle of the process that is shown traps with.
+-- What is returned is what the cycle of the process that is shown traps with.
 use Rattle.std.proofs.Common.{ap, ◌∙◌, Option}
 use Rattle.causes.specs.Causes.{memory_shown, trap_of}
 use Rattle.unixmodel.specs.Cycle.{act_word}
