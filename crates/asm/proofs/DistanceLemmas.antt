@@ -9,7 +9,7 @@ use Rattle.unixmodel.specs.Assembly as the
 use Rattle.unixmodel.specs.declared.assembly.AsmKind.TheVariants as kind
 use Rattle.asmtext.proofs.NumberLemmas.{field_negated, negative_within, positive_within}
 
--- ---- the way between two addresses
+-- ---- the distance between two addresses
 
 pub ahead_in : (a b below above bits : ℕ) → a ≤ b → b - a ≤ above → above < 2 ^ bits
     → Some (b - a) ≡ field_within below above bits (away a b)

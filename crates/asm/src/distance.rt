@@ -13,7 +13,7 @@ use crate::layout::Placed;
 use asmtext::{Number, Target};
 use unixmodel::assembly::AsmKind;
 
-/// A number that is written, or the way from one address to another.
+/// A number that is written, or the distance from one address to another.
 #[derive(Clone, Copy)]
 pub enum Distance<'a> {
     Number(&'a Number),
@@ -69,7 +69,7 @@ impl<'a> Distance<'a> {
     }
 }
 
-/// How far a target is, seen from a base: the number that it is, or the way to its label.
+/// How far a target is, seen from a base: the number that it is, or the distance to its label.
 pub fn distance_to<'a>(
     placed: &[Placed],
     labels: &Labels,

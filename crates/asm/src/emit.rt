@@ -65,7 +65,7 @@ fn numbered_code<'a>(
     }
 }
 
-// An instruction that goes so far.
+// An instruction that jumps this far.
 fn leap_code<'a>(address: u128, leap: Leap, distance: &Distance) -> Result<Output<'a>, AsmKind>
     ensures { coded_seen result
         ≡ the.jump_code address (leap_bits leap) (leap_instr leap) (Some (distance_seen distance.now)) }

@@ -9,9 +9,9 @@ use unixmodel::instr::{BranchOp, Instr, Reg};
 /// An instruction that jumps, without its target.
 #[derive(Clone, Copy)]
 pub enum Leap {
-    /// If the registers compare so.
+    /// If the comparison of the registers holds.
     Branch(BranchOp, Reg, Reg),
-    /// With the way back in a register.
+    /// With the return address in a register.
     Jal(Reg),
 }
 

@@ -23,7 +23,7 @@ enum Mode {
     Lost,
 }
 
-/// The string so far is that which the reader is in.
+/// A reader, with the bytes so far of the string that it is in.
 #[derive(Drop)]
 struct Reader {
     mode: Mode,

@@ -341,7 +341,7 @@ module _ (from : ℕ) (doubt : Bool) where
   scan-keeps o (e ∷ es) k h =
       scan-keeps (cond (is_due from doubt e) (lower o e.0) o) es k (step-keeps (is_due from doubt e) o e.0 k h)
 
-  -- a block that is due bounds the answer
+  -- a block that is due bounds the result
   pub scan-bounds : (o : Option ℕ) (es : Entries) (k : ℕ) (s : Slot) → lookup (nat_eq k) es ≡ Some s
       → is_due from doubt (k, s) ≡ true → IsAtMost (scan from doubt o es) k
   unfolding scan
@@ -371,7 +371,7 @@ module _ (from : ℕ) (doubt : Bool) where
     | inr high ↦ inr (refl, omega arith)
   ]
 
-  -- the answer is a held block's number
+  -- the result is a held block's number
   pub scan-found : (o : Option ℕ) (es : Entries) (n : ℕ) → scan from doubt o es ≡ Some n → (o ≡ Some n) ⊎ IsFound es n
   unfolding scan
   scan-found o [] n h = inl h

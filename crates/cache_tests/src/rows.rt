@@ -99,7 +99,7 @@ fn does(cache: &mut Cache<FailAt<MemDisk>>, act: Act) -> bool {
     }
 }
 
-/// Whether a disk was read and written so often.
+/// Whether a disk was read and written this often.
 pub fn took(disk: &MemDisk, reads: u64, writes: u64) -> bool {
     disk.reads() == reads && disk.writes() == writes
 }
@@ -280,7 +280,7 @@ fn done(cache: &mut Cache<FailAt<MemDisk>>, acts: &[Act]) -> usize {
     acts.len()
 }
 
-// Whether the disk is as it is to be.
+// Whether the disk is as expected.
 fn is_left(disk: &MemDisk, case: &Case) -> bool {
     took(disk, case.reads, case.writes)
         && has(disk, case.bytes)

@@ -22,7 +22,7 @@ pub enum Why {
     NoPage,
     /// The page below the stack, which no program may use.
     Guard,
-    /// The page may not be accessed so.
+    /// The page may not be accessed in this way.
     Closed,
 }
 

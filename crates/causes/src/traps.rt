@@ -139,8 +139,9 @@ fn act_word<D: BlockDev, T: Translate>(
     }
 }
 
-/// What the next instruction of the process with a pid would fault with if it were done now: the trap that the cycle of
-/// the process ends in, if that is no call. `None` where it would not fault, and where there is no such process.
+/// The trap that the next instruction of the process with a pid would raise now.
+/// It is the one in which the process's cycle ends, if that is no call.
+/// `None` where it would not fault, and where there is no process of this pid.
 pub fn cause<D: BlockDev, T: Translate>(machine: &Machine<D, T>, pid: u32) -> Option<Trap>
     ensures { result ≡ option_and_then trap_shown (shown_process machine.now.state pid) }
 {

@@ -40,7 +40,7 @@ pub each-next : (step : ℕ → ℕ → ℕ) (n digest now next : ℕ) → now �
     → next ≡ each step (n + 1) digest
 each-next step n digest now next so_far told = told ∙ ap (λ d. step d n) so_far ∙ sym (each-more step n digest)
 
--- as many steps as there are to be
+-- as many steps as there have to be
 pub each-all : (step : ℕ → ℕ → ℕ) (n m digest now : ℕ) → now ≡ each step n digest → n ≡ m → now ≡ each step m digest
 each-all step n m digest now so_far all = so_far ∙ ap (λ k. each step k digest) all
 

@@ -170,7 +170,7 @@ status_number (Some status) = cast_unsigned w32 status + 1
 abbrev pub front_of : State → List ℕ
 front_of s = s.ticks ∷ s.next_pid ∷ s.last ∷ status_number s.halted ∷ []
 
--- all but the files
+-- everything except the files
 unfoldable pub digest_but_files : State → ℕ
 digest_but_files s = pipes_mixed
     (opens_mixed (places_mixed (console_mixed (mixed start (front_of s)) s.console) s) s.opens) s.pipes

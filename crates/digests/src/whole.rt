@@ -1,4 +1,4 @@
-//! The digest of all but the files.
+//! The digest of everything except the files.
 ghost use Rattle.std.specs.Prelude.{◌≡◌, ◌∷◌, []};
 ghost use Rattle.digests.specs.Digest.{digest_but_files, front_of, mixed, start, status_number};
 ghost use Rattle.kernel.specs.Kernel.{state_of};

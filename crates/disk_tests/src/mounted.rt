@@ -46,7 +46,7 @@ fn mounts_the_console(rt: HostRuntime) {
     assert!(rt; tree.stat(2) == Ok(CONSOLE));
 }
 
-// What is asked of the files of the flat image, and the answer.
+// What is asked of the files of the flat image, and the expected result.
 #[derive(Clone, Copy)]
 enum Asked {
     /// Any number.
@@ -91,7 +91,7 @@ static ASKED: [(&str, Asked); 19] = [
     ),
 ];
 
-// Whether the files answer so.
+// Whether the files give the expected result.
 fn is_answer(tree: &mut Tree<MemDisk>, asked: Asked) -> bool
     requires { IsFlat tree.old }
 {

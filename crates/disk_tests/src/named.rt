@@ -15,7 +15,7 @@ use tree::{Leaf, Tree, TreeFault};
 // A path of 127 slashes.
 const SLASHES: [u8; 127] = [b'/'; 127];
 
-// A step, and what it is to give.
+// A step, and its expected result.
 #[derive(Clone, Copy)]
 enum Step<'a> {
     // The path reaches this number.

@@ -63,7 +63,7 @@ fn is_possible(geometry: Geometry) -> bool
         && geometry.data_start() < geometry.size
 }
 
-/// A step, and what it is to give. Files go by their numbers.
+/// A step, and its expected result. Files are named by their numbers.
 #[derive(Clone, Copy)]
 pub enum Step {
     /// A new file gets this number; none is free where there is no number here.

@@ -48,7 +48,7 @@ segment_at-part file at =
       part 8 40 (omega arith),
     ) refl
 
--- what loading goes on with after that answer of `segment`
+-- what loading goes on with after this result of `segment`
 abbrev pub loaded_by : List ℕ → Loaded → Segment → Result (Option LoadSegment) ElfFault → Option Loaded
 loaded_by file l g (Err fault) = None
 loaded_by file l g (Ok None) = Some l
@@ -109,7 +109,7 @@ past-end : (n : ℕ) (file : List ℕ) (at : ℕ) → is_within at (56 * n) (len
 past-end zero file at h = absurd (cc)
 past-end (suc n) file at h = short-headers n file at nothing_loaded (grind (arith, nat_tests, h))
 
--- what loading begins with after that answer of `header`
+-- what loading begins with after this result of `header`
 abbrev pub headers_by : List ℕ → Result FileHeader ElfFault → Option Loaded
 headers_by file (Err fault) = None
 headers_by file (Ok h) = load_segments file h.count h.program_headers nothing_loaded
@@ -196,7 +196,7 @@ module _ (bytes : List ℕ) (end len kind : ℕ) (told : kind ≡ number_at 4 0 
       let yes : nat_eq (number_at 4 0 bytes) 1 ≡ true = grind (arith, nat_tests, told, load) in
       rw (yes, is, shown) refl
 
--- ---- the answer of `header`
+-- ---- what `header` returns
 
 pub header-read : (bytes : List ℕ) (len entry at count : ℕ) → number_at 4 0 bytes ≡ 0x464C457F
     → entry ≡ number_at 8 24 bytes → at ≡ number_at 8 32 bytes → count ≡ number_at 2 56 bytes

@@ -326,7 +326,7 @@ fn of_image(topic: Topic) -> &'static [Meaning] {
     }
 }
 
-/// What a line means by which a command on this topic says how a job ended, and what to do.
+/// What a line means that ends a command on this topic, and what to do.
 pub fn meaning(topic: Topic, line: &str) -> Option<&'static str> {
     among(own(topic), Place::Whole, line)
         .or(among(of_image(topic), Place::Whole, line))

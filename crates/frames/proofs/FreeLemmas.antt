@@ -121,7 +121,7 @@ module _ {m : Ram} {s : Frames} (is : IsFreeList m s) where
   pub further-free : (f : ℕ) → among f (free_of m s) ≡ true → further_at s f ≡ 0
   further-free f at = omega (arith, further-is s f)
 
-  -- nor has what is no frame
+  -- and neither has what is no frame
   pub further-past : (f : ℕ) → length m ≤ f → further_at s f ≡ 0
   further-past f past = omega (arith, further-is s f, get_or_past s.holders.items f 0 (omega arith))
 

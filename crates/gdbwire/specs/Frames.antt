@@ -64,7 +64,7 @@ is_sum total _ _ = false
 abbrev pub judged : Reading → Option ℕ → Option ℕ → Heard
 judged r high low = if is_sum r.sum high low then (if r.is_long then TooLong else Packet) else Damaged
 
--- what is heard between frames: an answer to the last frame that was sent, a wish to interrupt, or nothing
+-- what is heard between frames: an acknowledgement of the last frame that was sent, a wish to interrupt, or nothing
 unfoldable pub between : ℕ → Option Heard
 between b = if b == 43 then Some Acknowledged
     else (if b == 45 then Some Refused else (if b == 3 then Some Interrupt else None))

@@ -113,7 +113,7 @@ pub fn changed(alloc: Global, format: Format, changes: &[Change]) -> Option<Vec<
     Some(image)
 }
 
-// The records of the root and of inode 3.
+// The inodes of the root and of inode 3.
 const ROOT: usize = 2048 + 64;
 
 const THREE: usize = 2048 + 3 * 64;

@@ -1,6 +1,6 @@
 //! What an enemy hands a machine: programs of random words, odd arguments of calls, odd program files, and odd images.
 //!
-//! Each line of standard input names cases, of which each has to go well:
+//! Each line of standard input names cases, all of which have to go well:
 //!
 //! | line | cases |
 //! |---|---|
@@ -8,9 +8,9 @@
 //! | `arguments` | programs that give odd arguments, or change themselves |
 //! | `code` | programs that write their own code, by many steps at once and by one at a time |
 //! | `files` | program files with odd headers, for exec and as `/init` |
-//! | `images` | images of which parts name themselves |
-//! | `pieces` | each piece from the beginning of an image on |
-//! | `bits N` | the image with a bit turned, each N-th of its first blocks |
+//! | `images` | images whose parts name themselves |
+//! | `pieces` | each beginning of an image |
+//! | `bits N` | the image with one bit turned, of one bit in N of its first blocks |
 //!
 //! The line is printed again with `: well` after it; the first case that goes wrong ends the program.
 #![tactic(auto)]

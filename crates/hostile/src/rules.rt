@@ -423,7 +423,7 @@ impl<'a> Picture<'a> {
         true
     }
 
-    // Rule 9 of an inode: a directory but the root is named once, and the root never.
+    // Rule 9 of an inode: a directory except the root is named once, and the root never.
     fn is_named_rightly(&self, number: u32, places: &[Place<'_>]) -> bool {
         self.kind(number) != DIRECTORY || times(number, places) == usize::from(number != 1)
     }

@@ -31,7 +31,7 @@ pub fn plain() -> Chosen<'static> {
     Chosen::Plain(Plain::new())
 }
 
-/// Lets a machine go. Each function that does so is long to prove, so this one does it for all.
+/// Drops a machine. A function that does this takes long to prove, so this one does it for all.
 pub fn let_go(_machine: AnyMachine<'_>) {}
 
 /// A program, and the keys that are typed first.
@@ -128,7 +128,7 @@ fn is_like(
         && has_same_processes(first, machine, shown.end.0)
 }
 
-// Whether a machine over a translator of a kind does so.
+// Whether a machine over a translator of a kind shows the same.
 fn goes_like(
     alloc: Global,
     input: Input<'_>,
@@ -147,7 +147,7 @@ fn goes_like(
     }
 }
 
-// Whether a machine over each translator does so.
+// Whether a machine over each translator shows the same.
 fn goes_like_over_each(
     alloc: Global,
     input: Input<'_>,

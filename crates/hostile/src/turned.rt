@@ -1,4 +1,4 @@
-//! An image of which the end is wanting, or a bit is turned.
+//! An image whose end is missing, or of which a bit is turned.
 
 ghost use Rattle.std.specs.Prelude.{◌<◌};
 

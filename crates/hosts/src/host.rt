@@ -78,11 +78,11 @@ pub trait Host {
         ensures bytes { IfOk result (λ bytes. Holds name.now bytes.items (files self.old)) }
         ensures same { files self.new ≡ files self.old };
 
-    /// Makes a file of the bytes, in place of the one of that name if there is one.
+    /// Makes a file of the bytes, instead of the one of that name if there is one.
     fn write(&mut self, name: &str, bytes: &[u8]) -> Result<(), HostFault>
         ensures { OnOk result (Writes name.now bytes.now (files self.old) (files self.new)) };
 
-    /// The first bytes of a file, that many where it has as many. A host that can stops reading there.
+    /// The first `most` bytes of a file, or all where it has fewer. A host that can stop there reads no more.
     fn read_front(&mut self, name: &str, most: usize) -> Result<Front, HostFault>
         ensures most { IfOk result (λ front. vec_len front.bytes ≤ most) }
         ensures front { IfOk result (λ front. HoldsFront name.now most front (files self.old)) }

@@ -19,7 +19,7 @@ use Rattle.imagemake.proofs.Putting.{placed-end, room-end-at, packed-node, packe
 use Rattle.std.proofs.lemmas.List.Filters.{sum_by-filter_both}
 use Rattle.indexmap.proofs.IndexTableLemmas.Probe.{pigeonhole}
 
--- the links of a directory with such an entry more
+-- the links of a directory with one more entry of this kind
 abbrev pub links_with : Thing → ℕ → ℕ
 links_with Folder links = links + 1
 links_with thing links = links

@@ -152,7 +152,7 @@ told_err r told = let err = err_from_is_err_and r told in err.1 ∙ ap Err err.2
 pub err_is : {T E : Type 0} (a b : E) → ◌≡◌ {A = Result T E} (Err a) (Err b) → a ≡ b
 err_is a b e = cc
 
--- an error is no good answer
+-- an error is no success
 pub none-done : {T E : Type 0} (P : Type 0) {r : Result T E} {fault : E} → r ≡ Err fault → OnOk r P
 none-done {T} {E} P e = subst (λ (x : Result T E). OnOk x P) (sym e) tt
 

@@ -207,7 +207,7 @@ not_missed p (x ∷ xs) zero i l e t none = none-some x (sym (rw (ap p e ∙ t) 
 not_missed p (x ∷ xs) (suc n) i l e t none =
     not_missed p xs n i (omega (arith, l)) e t (none_later (p x) x (find p xs) none)
 
--- an answer by the two clauses of a decoder is what is found
+-- a result by the two clauses of a decoder is what is found
 agrees_with : (w : ℕ) (r o : Option Instr) → find (λ j. spell j == w) (possible w) ≡ o
     → IfSome o (λ j. ((spell j == w) ≡ true) × Fits j) → IfSome r (λ i. Fits i × (spell i ≡ w))
     → ((i : Instr) → Fits i → spell i ≡ w → r ≡ Some i) → r ≡ o

@@ -47,7 +47,7 @@ fn open_on(target: Target) -> OpenFile {
     }
 }
 
-// What is asked of a table, and the answer.
+// What is asked of a table, and the expected result.
 #[derive(Clone, Copy)]
 enum Row {
     Open(Target, Result<usize, FileFault>),

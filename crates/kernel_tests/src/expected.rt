@@ -15,12 +15,12 @@ pub fn has_frames(rt: &impl Abort, ram: &Ram, count: u32)
     assert!(rt; frames == count);
 }
 
-/// What a row of a case says is so.
+/// A row of a case holds.
 pub fn expect_row(rt: &impl Abort, is_so: bool, case: &str, row: usize) {
     assert!(rt; is_so, "{case}: row {row}");
 }
 
-/// What a case says of all its rows is so.
+/// All rows of a case hold.
 pub fn expect_case(rt: &impl Abort, is_so: bool, case: &str) {
     assert!(rt; is_so, "{case}");
 }

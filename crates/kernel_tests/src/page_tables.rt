@@ -82,7 +82,7 @@ impl Mapping {
         true
     }
 
-    // Whether this is done to a page, or so.
+    // Whether the act is done, or holds, as expected.
     fn does(&mut self, page: u64, act: Act) -> bool
         requires { page < 2 ^ 27 }
     {

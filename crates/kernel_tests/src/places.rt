@@ -137,7 +137,7 @@ fn has_path(spaces: &Flat, at: usize, address: u64, count: Option<usize>) -> Opt
     Some(told == count && buffer.get(..n) == SLASHES.get(..n))
 }
 
-// And a string, which is to fit in a buffer of 126 bytes.
+// The same of a string, which has to fit in a buffer of 126 bytes.
 fn has_string(spaces: &Flat, at: usize, address: u64, count: Option<usize>) -> Option<bool> {
     if !spaces.has_space(at) {
         return None;
@@ -171,7 +171,7 @@ enum Act {
     HasPc(u64),
 }
 
-// Whether it is done, or so; nothing where it may not be asked.
+// Whether the act is done, or holds; nothing where it may not be asked.
 fn answer(spaces: &mut Flat, act: Act) -> Option<bool> {
     match act {
         Act::Create(at) => create(spaces, at),
@@ -211,7 +211,7 @@ struct Case {
     acts: &'static [(Act, bool, u32)],
 }
 
-// The program in places 3 and 4, of which the latter is active.
+// The program in slots 3 and 4, of which the latter is active.
 const LOADED: &[(Act, bool, u32)] = &[
     (Act::Create(3), true, 60),
     (Act::Grow(3, 4096, PROGRAM), true, 57),
@@ -353,7 +353,7 @@ fn spaces_come_change_and_go(rt: HostRuntime) {
     }
 }
 
-// How often the translator is fenced: by new spaces of one page in places 0 and 1, then by making the latter active, by
+// How often the translator is fenced: by new spaces of one page in slots 0 and 1, then by making the latter active, by
 // shrinking the former, and by shrinking the active one.
 fn fences_of(spaces: &mut Spaces<Counting<'_>>, fences: &Cell<u32>) -> Option<[u32; 4]> {
     for at in 0..2 {

@@ -47,7 +47,7 @@ fn picks_in_turn(rt: HostRuntime) {
     assert!(rt; table.pick(is_in_user_state) == Some(0));
 }
 
-// Who is found not ready is looked at again once it is woken.
+// A process that is found not ready is looked at again once it is woken.
 #[test]
 fn looks_at_who_is_awake(rt: HostRuntime) {
     let mut table = Table::starting_at(1);
@@ -179,7 +179,7 @@ fn is_zombie(table: &Table, place: usize, pid: u32, status: i32) -> bool {
     }
 }
 
-// Whether it is done, or so.
+// Whether the act is done, or holds, as expected.
 fn does(table: &mut Table, act: Act) -> bool {
     match act {
         Act::Alloc(parent, told) => alloc(table, parent) == told,

@@ -13,7 +13,7 @@ struct Watched {
     received: Vec<u8>,
 }
 
-// What is done with a pipe, or asked, and the answer.
+// What is done with a pipe, or asked, and the expected result.
 #[derive(Clone, Copy)]
 enum Act {
     /// Writes that many bytes.

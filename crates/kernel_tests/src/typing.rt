@@ -28,7 +28,7 @@ impl Write for Narrow {
     }
 }
 
-// An output over such a writer.
+// An output over a writer that takes `room` bytes.
 fn over_narrow(alloc: Global, room: usize) -> Writer<Narrow> {
     Writer::new(Narrow {
         taken: Vec::new(alloc),

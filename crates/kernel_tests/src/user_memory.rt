@@ -151,7 +151,7 @@ impl Alone {
             .copy_string(&self.ram, address, &mut back[..room.min(4)])
     }
 
-    // Whether this is done, or so.
+    // Whether the act is done, or holds, as expected.
     fn does(&mut self, act: Act) -> bool {
         match act {
             Act::Grow(bytes, perm, told) => self.grow(bytes, perm) == told,

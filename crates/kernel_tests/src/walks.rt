@@ -39,7 +39,7 @@ fn by_hand(rt: &(impl Abort + AllocGlobal)) -> Ram {
     ram
 }
 
-// Whether a walk and both translators answer so.
+// Whether a walk and both translators return what is wanted.
 fn is_answer(ram: &Ram, plain: &mut Plain, va: u64, access: Access, want: Option<u64>) -> bool {
     plain.fence();
     let walked = walk(ram, FrameNo(0), va, access).ok();

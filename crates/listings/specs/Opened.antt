@@ -25,7 +25,7 @@ IsBegun files path begun = (begun ≡ files)
     ⊎ ((find files 1 path ≡ None)
     × ((n : ℕ) × (made_in files 1 path (File 1 []) ≡ Some (record { files = begun; number = n }))))
 
--- the file has these bytes in place of its own
+-- the file has these bytes instead of its own
 pub record HasPut (files : Files) (n : ℕ) (bytes : List ℕ) (new : Files) : Type 0 where
   pub links : ℕ
   pub old : List ℕ

@@ -38,8 +38,8 @@ fn make_missing<D: BlockDev>(tree: &mut Tree<D>, path: &[u8]) -> Result<(), Tree
     Ok(())
 }
 
-// A file gets these bytes in place of those that it has. `Blocks` comes where they are too many for the disk or for a
-// file.
+// A file gets these bytes instead of those that it has.
+// `Blocks` is returned where they are too many for the disk or for a file.
 fn replace<D: BlockDev>(tree: &mut Tree<D>, number: usize, bytes: &[u8]) -> Result<(), TreeFault>
     requires rests { IsAtRest tree.old }
     requires file { IsFile tree.old.files number }

@@ -108,7 +108,7 @@ fn write_listed<D: BlockDev, W: Write>(
     write_entries(tree, directory, out)
 }
 
-// Writes the next directory below one on the way, if there is one.
+// Writes the next directory below one on the path, if there is one.
 fn go_on<D: BlockDev, W: Write>(
     tree: &mut Tree<D>,
     way: &mut Way,

@@ -56,7 +56,7 @@ const ROWS: [(Program, &[Piece]); 3] = [
     (Program::Words(&FAULTER, &[]), &UP_TO_A_FAULT),
 ];
 
-// Whether pieces are so long, and lead to where as many steps lead.
+// Whether each piece does that many instructions, and leads to where as many steps lead.
 fn goes(alloc: Global, program: Program<'_>, pieces: &[Piece<'_>]) -> Option<bool> {
     let bytes = program.bytes(alloc).ok()?;
     let mut machine = boot_flat_with(alloc, bytes.as_slice(), Recent::new(Plain::new()), 64).ok()?;

@@ -265,7 +265,7 @@ fn fetches_of_one_page_are_asked_for_once(rt: HostRuntime) {
 // A leaf for all pages from page 0 on, in frame 0 and those after it: it may be read, written and executed.
 const WIDE_LEAF: u64 = 0x2000_00df;
 
-/// A cache that has translated a fetch of page 0 under a root, in a memory in which that root has such a leaf.
+/// A cache that has translated a fetch of page 0 under a root that has this leaf in the given memory.
 pub(crate) fn stale(ram: &mut Ram, root: FrameNo) -> Tlb<64> {
     let mut cache = Tlb::<64>::new();
     if root.0 < ram.frame_count() {

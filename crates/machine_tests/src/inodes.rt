@@ -81,7 +81,7 @@ static RUNS: [Case; 5] = [
             Reads(1, 0, 0, &[]),
         ],
     },
-    // The console has no bytes, nor has a number that is free or that no inode has.
+    // The console has no bytes, and neither has a number that is free or that no inode has.
     Case {
         name: "nothing is read where there are no bytes",
         size: USUAL,

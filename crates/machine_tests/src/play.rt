@@ -167,7 +167,7 @@ pub(crate) enum Act<'a> {
     Halts(Halt),
     /// A list of events, and why the machine stops at one of them, if it does.
     Runs(&'a [Event], Option<Halt>),
-    /// What the next calls of a list answer.
+    /// What the next calls of a list return.
     Answers(&'a [u64]),
     /// The same, and how many frames are free after each.
     Answered(&'a [(u64, u32)]),
@@ -554,7 +554,7 @@ impl<T: Translate> Play<T> {
         holds
     }
 
-    // Whether the next calls of a list answer so.
+    // Whether the next calls of a list return these.
     fn answers(&mut self, answers: &[u64]) -> bool {
         answers.iter().all(|a0| self.answers_next(*a0))
     }

@@ -254,7 +254,7 @@ forks = record { seven_forks = refl; seven_forked = refl; fork_marks = refl }
 abbrev child_exits : State
 child_exits = (ask (ask_all (flat_state 64) (fork ∷ [])) 1 (exit 7)).state
 
--- process 2 forks 3 and exits, 3 exits: two waits of process 1 answer 2, then 3
+-- process 2 forks 3 and exits, 3 exits: two waits of process 1 return 2, then 3
 abbrev grandchild : State
 grandchild =
     let one = ask_all (flat_state 256) (fork ∷ []) in
@@ -376,7 +376,7 @@ writes : record {
       ≡ (minus_one, []) ∷ (minus_one, []) ∷ (minus_one, []) ∷ [];
   below_zero_bytes : map answered (write_text "hi" 1 8192 0xffffffff ∷ write_text "hi" 1 8192 0x80000000 ∷ [])
       ≡ (minus_one, []) ∷ (minus_one, []) ∷ [];
-  -- the buffer has to lie in pages that the program may read: the guard page is none, nor what follows the stack
+  -- the buffer has to lie in pages that the program may read: neither the guard page nor what follows the stack is one
   outside : map answered (write_text "" 1 4095 1 ∷ write_text "" 1 4095 2 ∷ write_text "" 1 4096 1
       ∷ write_text "" 1 12287 1 ∷ write_text "" 1 12287 2 ∷ write_text "" 1 minus_one 1 ∷ [])
       ≡ (1, 0 ∷ []) ∷ (minus_one, []) ∷ (minus_one, []) ∷ (1, 0 ∷ []) ∷ (minus_one, []) ∷ (minus_one, []) ∷ [];

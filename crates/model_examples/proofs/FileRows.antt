@@ -240,7 +240,7 @@ shown : record {
   -- from an offset on, as many as are asked for and are there
   parts_of_root : map (λ at. shown_bytes at_first 1 at 4) (0 ∷ 16 ∷ 32 ∷ 46 ∷ 48 ∷ 1000 ∷ [])
       ≡ (1 ∷ 0 ∷ 0x2e ∷ 0 ∷ []) ∷ (1 ∷ 0 ∷ 0x2e ∷ 0x2e ∷ []) ∷ (2 ∷ 0 ∷ 0x63 ∷ 0x6f ∷ []) ∷ (0 ∷ 0 ∷ []) ∷ [] ∷ [] ∷ [];
-  -- a device has no bytes, nor has a number that names nothing
+  -- a device has no bytes, and neither has a number that names nothing
   no_bytes : map (λ n. shown_bytes at_first n 0 100) (0 ∷ 2 ∷ 3 ∷ 16 ∷ []) ≡ [] ∷ [] ∷ [] ∷ [] ∷ [];
   file_told : shown_stat with_file 3 ≡ told 2 1 2;
   file_bytes : map (λ at. shown_bytes with_file 3 at 10) (0 ∷ 1 ∷ 2 ∷ []) ≡ codes "hi" ∷ codes "i" ∷ [] ∷ [];

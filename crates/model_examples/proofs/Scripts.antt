@@ -1,4 +1,4 @@
--- Calls of process 1 in a row, and what they answer.
+-- Calls of process 1 in a row, and what they return.
 use Rattle.model_examples.proofs.Common.{Running, After, call, quiet, free_frames, read_bytes, write_bytes, number}
 use Rattle.model_examples.proofs.Common.{Process, State, process_at, put_process}
 use Rattle.std.specs.Prelude.{◌+◌, ◌++◌, ◌-◌, [], ◌^◌, List, map, None, Option, option_map, slice_index, slice_set}
@@ -27,25 +27,25 @@ asking p c = record p {
   mode = Running;
 }
 
--- the process in place i asks
+-- the process in slot i asks
 abbrev pub ask : State → ℕ → Asked → After
 ask s i c = elim (process_at s i) [ None ↦ quiet s | Some p ↦ call (put_process s i (asking p c)) i (asking p c) ]
 
 abbrev pub answer_at : State → ℕ → ℕ
 answer_at s i = elim (process_at s i) [ None ↦ 0 | Some p ↦ slice_index p.registers 10 ]
 
--- the bytes at an address of the process in place i
+-- the bytes at an address of the process in slot i
 abbrev pub bytes_in : State → ℕ → ℕ → ℕ → List ℕ
 bytes_in s i at n = elim (process_at s i) [ None ↦ [] | Some p ↦ unwrap_or (read_bytes p.memory at n) [] ]
 
 abbrev pub mode_at : State → ℕ → Option Mode
 mode_at s i = option_map (λ (p : Process). p.mode) (process_at s i)
 
--- whether the process in place 0 runs, and its answer
+-- whether the process in slot 0 runs, and what its call returned
 abbrev pub runs_with : State → Option ℕ
 runs_with s = elim (mode_at s 0) [ Some Running ↦ Some (answer_at s 0) | _ ↦ None ]
 
--- the state after these calls of process 1, the states after each of them, and what they answer
+-- the state after these calls of process 1, the states after each of them, and what they return
 abbrev pub ask_all : State → List Asked → State
 ask_all s [] = s
 ask_all s (c ∷ cs) = ask_all (ask s 0 c).state cs
@@ -76,7 +76,7 @@ sbrk d = plain 12 (d ∷ [])
 abbrev pub below_zero : ℕ → ℕ
 below_zero d = 2 ^ 64 - d
 
--- the flat program of no bytes but one, with 256 frames or others
+-- the flat program of one byte, 0, with this many frames
 abbrev pub flat_state : ℕ → State
 flat_state frames = unwrap_or (start_flat (0 ∷ []) frames)
     (first_state [] 0 0 [] (first_process (record { memory = []; size = 0; pc = 0; argc = 0; sp = 0 }) []))

@@ -17,7 +17,7 @@ pub record Held : Type 0 where
   pub synced : Bool
   pub left : List ℕ → Bool
 
--- all names but one hold what they held
+-- all names except one hold what they held
 abbrev pub IsBut : List ℕ → Held → Held → Type 0
 IsBut name old new = (n : List ℕ) → n ≢ name → new.bytes n ≡ old.bytes n
 
@@ -72,7 +72,7 @@ abbrev pub Tries : List ℕ → List ℕ → List ℕ → Attempt → Held → H
 Tries begun name bytes Put old new = Sets name (Some bytes) old new
 Tries begun name bytes Taken old new = IsSame old new × ((begun ≡ name) ⊎ (old.bytes begun ≢ None))
 
--- all is as it was; but a file that was begun under another name may be left, where it could not be removed
+-- all is as it was, except that a file that was begun under another name may be left, where it could not be removed
 abbrev pub Keeps : List ℕ → PutFault → Held → Held → Type 0
 Keeps name fault.Left old new = (begun : List ℕ) × ((begun ≢ name) × IsBut begun old new)
 Keeps name _ old new = IsSame old new

@@ -23,7 +23,7 @@ struct SystemFolder<'a, R> {
     error: Option<io::Error>,
 }
 
-// What an error of the system is to who replaces a file.
+// What an error of the system means for a step.
 fn step_fault(kind: ErrorKind) -> StepFault {
     match kind {
         ErrorKind::AlreadyExists => StepFault::Taken,

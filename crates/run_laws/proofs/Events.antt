@@ -185,7 +185,7 @@ pub record Takes (s : State) (at : Option ℕ) (t : State) : Type 0 where
   pub left : (i : ℕ) (p : Process) → process_at s i ≡ Some p → is_running p ≡ false → at ≢ Some i
       → IsLeft p (process_at t i)
 
--- nobody is picked; what changes is the process in place r, which runs
+-- nobody is picked; what changes is the process in slot r, which runs
 takes-none : {s : State} {r : ℕ} {t : State} → ((p : Process) → process_at s r ≡ Some p → is_running p ≡ true)
     → Passes r s t → Takes s None t
 takes-none {s} {r} runs passes = record {

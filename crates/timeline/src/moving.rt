@@ -44,7 +44,7 @@ impl Timeline {
         wanted.is_met(self.machine())
     }
 
-    // Instructions of an event that comes n times from here on, up to where there may be a reason to stop.
+    // Does instructions of an event that comes n times from here on, up to where there may be a reason to stop.
     fn compute<W: Wanted>(&mut self, times: u32, wanted: &W)
         requires { IsAhead self.old.events self.old.at (Step, times) }
         ensures { IsStride (W.stops wanted.now) self.old self.new times }

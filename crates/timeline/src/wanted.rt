@@ -19,8 +19,8 @@ pub trait Wanted {
     fn is_met(&self, machine: &Debuggee) -> bool
         ensures { result ≡ stops self.now machine.now.state };
 
-    /// The only addresses at which a process may stop that goes on by instructions; `None` where each state has to be
-    /// looked at.
+    /// The only addresses at which a process that goes on by instructions may stop.
+    /// `None` where each state has to be looked at.
     fn addresses(&self) -> Option<&[u64]>
         ensures { IfSome result (λ addresses. StopsOnlyAt (stops self.now) addresses.now) };
 }

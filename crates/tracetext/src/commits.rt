@@ -71,7 +71,7 @@ fn write_bytes<W: fmt::Write>(f: &mut fmt::Formatter<W>, bytes: &[u8]) -> fmt::R
 }
 
 impl Commit<'_> {
-    // Where a load or a store goes, so far from a register.
+    // The address of a load or a store, at this distance from a register.
     fn write_address<W: fmt::Write>(
         &self,
         f: &mut fmt::Formatter<W>,

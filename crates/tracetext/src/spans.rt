@@ -147,7 +147,7 @@ enum Details<'a> {
     Name(&'a [u8]),
     // The index of a process among the others.
     Place(u32),
-    // A call with its arguments, and its answer.
+    // A call with its arguments, and what it returned.
     Call {
         name: CallName,
         text: &'a str,
@@ -157,7 +157,7 @@ enum Details<'a> {
     Bytes(usize),
 }
 
-// A call with its arguments, and its answer.
+// A call with its arguments, and what it returned.
 fn write_call<W: fmt::Write>(
     f: &mut fmt::Formatter<W>,
     name: CallName,

@@ -10,8 +10,9 @@
 //! Of each session it prints the title, the console's bytes and a line end, and a line that says how it ended, how many
 //! frames were free then, and what the image that it leaves uses.
 //!
-//! Each is played on six machines, which have to show and to leave the same: over each of five translators, and on a
-//! disk beside a cache without memory.
+//! Each is played on six machines, all of which have to show and to leave the same: over each of five translators, and
+//! on
+//! a disk beside a cache without memory.
 //!
 //! Where `fail` stands for `boot`, the session is played again and again, each time with another access of its disk
 //! that fails.
