@@ -1,10 +1,10 @@
 # cat [FILE..]: copies the files, or descriptor 0 where there are none, to descriptor 1.
 #
-# At the start a0 is the number of arguments, the program's name among them, and at a1 their addresses stand, one behind the
-# other, with a 0 behind the last. `jal ra, NAME` goes to a function or a call of the kernel, which takes a0, a1, .. and answers
-# in a0, -1 for a refusal; `ret` comes back. A function keeps sp and s0 to s11, a call all registers but a0 and a7.
+# At the start a0 is the number of arguments, the program's name among them, and a1 the address of the list of their
+# addresses, which ends with a 0. `jal ra, NAME` calls a function or the kernel: both take a0, a1, .. and return in a0,
+# the kernel -1 for a refusal; `ret` returns. A function keeps sp and s0 to s11, a call all registers except a0 and a7.
 
-start:      addi s0, a1, 8          # s0: where the next argument's address stands, behind that of the program's name
+start:      addi s0, a1, 8          # s0: where the next argument's address is, after that of the program's name
             ld t0, 0(s0)
             bne t0, zero, file
             li a0, 0                # no file is named: descriptor 0
@@ -26,7 +26,7 @@ file:       ld a0, 0(s0)            # one file after the other
 finish:     li a0, 0                # all went well
             jal ra, exit
 
-missing:    li a0, 2                # tell which file can't be opened
+missing:    li a0, 2                # print which file can't be opened
             la a1, cannot_open
             jal ra, print
             li a0, 2
@@ -64,7 +64,7 @@ copied:     ld ra, 0(sp)            # as the caller had them
             ret
 
 unread:     la a1, read_error
-complain:   li a0, 2                # a1: what is told
+complain:   li a0, 2                # a1: what is printed
             jal ra, print
 failed:     li a0, 1
             jal ra, exit

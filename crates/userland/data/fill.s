@@ -1,11 +1,11 @@
 # fill N FILE: makes a file of N blocks of 1024 bytes, each of which begins and ends with its number, counted from 0.
-# fill FILE: reads such a file, and tells how many blocks it has, or which one isn't as it was made.
+# fill FILE: reads such a file, and prints how many blocks it has, or which one isn't as it was made.
 #
-# At the start a0 is the number of arguments, the program's name among them, and at a1 their addresses stand, one behind the
-# other, with a 0 behind the last. `jal ra, NAME` goes to a function or a call of the kernel, which takes a0, a1, .. and answers
-# in a0, -1 for a refusal; `ret` comes back. A function keeps sp and s0 to s11, a call all registers but a0 and a7.
+# At the start a0 is the number of arguments, the program's name among them, and a1 the address of the list of their
+# addresses, which ends with a 0. `jal ra, NAME` calls a function or the kernel: both take a0, a1, .. and return in a0,
+# the kernel -1 for a refusal; `ret` returns. A function keeps sp and s0 to s11, a call all registers except a0 and a7.
 
-start:      mv s3, a1               # s3: where the arguments' addresses stand
+start:      mv s3, a1               # s3: where the arguments' addresses are
             mv s2, zero             # s2: the number of the block that comes next
             li t0, 2
             beq a0, t0, check
@@ -15,7 +15,7 @@ start:      mv s3, a1               # s3: where the arguments' addresses stand
             ld a0, 8(s3)            # how many blocks are wanted
             jal ra, number
             blt a0, zero, refused
-            mv s0, a0               # s0: so many
+            mv s0, a0               # s0: that number
             ld a0, 16(s3)
             li a1, 0x601            # open it to write; it is made, or emptied where it is there already
             jal ra, open
@@ -63,7 +63,7 @@ tell:       la a0, blocks           # their number goes before the word
 finish:     li a0, 0                # all went well
             jal ra, exit
 
-differs:    li a0, 2                # tell which one, and end with status 1
+differs:    li a0, 2                # print which one, and end with status 1
             la a1, wrong_block
             jal ra, print
             la a0, is_other
@@ -73,7 +73,7 @@ differs:    li a0, 2                # tell which one, and end with status 1
             j complain
 
 refused:    la a1, message
-complain:   li a0, 2                # a1: what is told
+complain:   li a0, 2                # a1: what is printed
             jal ra, print
             li a0, 1
             jal ra, exit
@@ -100,7 +100,7 @@ digit:      addi t1, t1, -48        # 48 is the digit 0
 wrong:      li a0, -1
             ret
 
-# decimal(place, number): writes a number in decimal digits that end before the place, and answers where they begin
+# decimal(end, number): writes a number in decimal digits that end before an address, and returns where they begin
 decimal:    li t0, 10
 figure:     remu t1, a1, t0         # the last digit
             addi t1, t1, 48         # 48 is the digit 0

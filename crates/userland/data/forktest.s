@@ -1,9 +1,9 @@
-# forktest: makes children until a fork is refused, waits for all of them, and tells how many there were. Each child ends
-# at once.
+# forktest: makes children until a fork is refused, waits for all of them, and prints how many there were.
+# Each child ends at once.
 #
-# At the start a0 is the number of arguments, the program's name among them, and at a1 their addresses stand, one behind the
-# other, with a 0 behind the last. `jal ra, NAME` goes to a function or a call of the kernel, which takes a0, a1, .. and answers
-# in a0, -1 for a refusal; `ret` comes back. A function keeps sp and s0 to s11, a call all registers but a0 and a7.
+# At the start a0 is the number of arguments, the program's name among them, and a1 the address of the list of their
+# addresses, which ends with a 0. `jal ra, NAME` calls a function or the kernel: both take a0, a1, .. and return in a0,
+# the kernel -1 for a refusal; `ret` returns. A function keeps sp and s0 to s11, a call all registers except a0 and a7.
 
 start:      mv s0, zero             # s0: how many children there are
 
@@ -17,10 +17,10 @@ waiting:    li a0, 0                # 0: the child's status isn't wanted
             jal ra, wait
             bge a0, zero, waiting   # refused: there is no child left
 
-            la a0, digits           # the count goes behind the word
+            la a0, digits           # the count goes after the word
             mv a1, s0
             jal ra, decimal
-            li t0, 10               # and a line end behind it
+            li t0, 10               # and a line end after it
             sb t0, 0(a0)
             addi a0, a0, 1
             la a1, line             # the line from its beginning up to there
@@ -33,7 +33,7 @@ finish:     li a0, 0
 
 # ---- functions
 
-# decimal(place, number): writes a number below 100 in decimal digits, and answers the place behind them
+# decimal(start, number): writes a number below 100 in decimal digits, and returns the address after them
 decimal:    li t0, 10
             mv t1, zero             # t1: the tens
 tens:       blt a1, t0, units       # take ten away as often as that goes

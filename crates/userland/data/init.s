@@ -1,8 +1,8 @@
 # init: the first process. It opens the console, keeps a shell running, and never ends by itself.
 #
-# At the start a0 is the number of arguments, the program's name among them, and at a1 their addresses stand, one behind the
-# other, with a 0 behind the last. `jal ra, NAME` goes to a function or a call of the kernel, which takes a0, a1, .. and answers
-# in a0, -1 for a refusal; `ret` comes back. A function keeps sp and s0 to s11, a call all registers but a0 and a7.
+# At the start a0 is the number of arguments, the program's name among them, and a1 the address of the list of their
+# addresses, which ends with a 0. `jal ra, NAME` calls a function or the kernel: both take a0, a1, .. and return in a0,
+# the kernel -1 for a refusal; `ret` returns. A function keeps sp and s0 to s11, a call all registers except a0 and a7.
 
 start:      la a0, console          # descriptor 0 is the console, to read and to write
             li a1, 2
@@ -20,7 +20,7 @@ opened:     li a0, 0                # descriptors 1 and 2 are the same open file
             li a0, 0
             jal ra, dup
 
-again:      li a0, 1                # tell that a shell is started
+again:      li a0, 1                # print that a shell is started
             la a1, starting
             jal ra, print
             jal ra, fork

@@ -1,9 +1,9 @@
 # ls [PATH]: the names in a directory, one a line; in the working directory where no path is given. Of a path that is no
 # directory the path itself.
 #
-# At the start a0 is the number of arguments, the program's name among them, and at a1 their addresses stand, one behind the
-# other, with a 0 behind the last. `jal ra, NAME` goes to a function or a call of the kernel, which takes a0, a1, .. and answers
-# in a0, -1 for a refusal; `ret` comes back. A function keeps sp and s0 to s11, a call all registers but a0 and a7.
+# At the start a0 is the number of arguments, the program's name among them, and a1 the address of the list of their
+# addresses, which ends with a 0. `jal ra, NAME` calls a function or the kernel: both take a0, a1, .. and return in a0,
+# the kernel -1 for a refusal; `ret` returns. A function keeps sp and s0 to s11, a call all registers except a0 and a7.
 
 start:      ld s0, 8(a1)            # s0: the path
             bne s0, zero, given
@@ -28,7 +28,7 @@ given:      mv a0, s0
             jal ra, print
             j finish
 
-entry:      mv a0, s1               # an entry: a number of 2 bytes, and 14 bytes of name, with zeros behind it
+entry:      mv a0, s1               # an entry: a number of 2 bytes, and 14 bytes of name, with zeros after it
             la a1, place
             li a2, 16
             jal ra, read
@@ -36,7 +36,7 @@ entry:      mv a0, s1               # an entry: a number of 2 bytes, and 14 byte
             bne a0, t0, finish      # the end
             la a1, place
             lhu t0, 0(a1)           # its number
-            beq t0, zero, entry     # a free place
+            beq t0, zero, entry     # a free entry
             addi a1, a1, 2          # a1: the name
             mv a2, zero             # a2: its length: up to a 0, and at most 14
             li t2, 14
@@ -46,7 +46,7 @@ letter:     beq a2, t2, ended
             beq t1, zero, ended
             addi a2, a2, 1
             j letter
-ended:      add t0, a1, a2          # a line end behind it
+ended:      add t0, a1, a2          # a line end after it
             li t1, 10
             sb t1, 0(t0)
             addi a2, a2, 1
@@ -57,7 +57,7 @@ ended:      add t0, a1, a2          # a line end behind it
 finish:     li a0, 0                # all went well
             jal ra, exit
 
-missing:    li a0, 2                # tell which path can't be opened
+missing:    li a0, 2                # print which path can't be opened
             la a1, cannot_open
             jal ra, print
             li a0, 2
@@ -102,6 +102,6 @@ cannot_open: .ascii "ls: cannot open \0"
 line_end:   .ascii "\n\0"
 here:       .ascii "\0"             # the empty path is the working directory
             .pad 8
-record:     .zero 24                # what fstat tells: the type stands at 8
+record:     .zero 24                # what fstat writes: the type is at 8
 place:      .zero 16                # an entry
             .zero 1                 # the line end of a name of 14 bytes

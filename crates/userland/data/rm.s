@@ -1,10 +1,10 @@
 # rm NAME..: takes names away, up to the first that is refused.
 #
-# At the start a0 is the number of arguments, the program's name among them, and at a1 their addresses stand, one behind the
-# other, with a 0 behind the last. `jal ra, NAME` goes to a function or a call of the kernel, which takes a0, a1, .. and answers
-# in a0, -1 for a refusal; `ret` comes back. A function keeps sp and s0 to s11, a call all registers but a0 and a7.
+# At the start a0 is the number of arguments, the program's name among them, and a1 the address of the list of their
+# addresses, which ends with a 0. `jal ra, NAME` calls a function or the kernel: both take a0, a1, .. and return in a0,
+# the kernel -1 for a refusal; `ret` returns. A function keeps sp and s0 to s11, a call all registers except a0 and a7.
 
-start:      addi s0, a1, 8          # s0: where the next argument's address stands, behind that of the program's name
+start:      addi s0, a1, 8          # s0: where the next argument's address is, after that of the program's name
             ld a0, 0(s0)
             beq a0, zero, refused   # one at least has to be there
 
@@ -16,7 +16,7 @@ next:       jal ra, unlink          # a0: the argument
             li a0, 0                # all went well
             jal ra, exit
 
-refused:    li a0, 2                # tell it, and end with status 1
+refused:    li a0, 2                # print it, and end with status 1
             la a1, message
             jal ra, print
             li a0, 1

@@ -5,9 +5,9 @@
 #
 # Words are separated by blanks; <, > and | are words of their own. A line has at most 100 bytes and 10 words.
 #
-# At the start a0 is the number of arguments, the program's name among them, and at a1 their addresses stand, one behind the
-# other, with a 0 behind the last. `jal ra, NAME` goes to a function or a call of the kernel, which takes a0, a1, .. and answers
-# in a0, -1 for a refusal; `ret` comes back. A function keeps sp and s0 to s11, a call all registers but a0 and a7.
+# At the start a0 is the number of arguments, the program's name among them, and a1 the address of the list of their
+# addresses, which ends with a 0. `jal ra, NAME` calls a function or the kernel: both take a0, a1, .. and return in a0,
+# the kernel -1 for a refusal; `ret` returns. A function keeps sp and s0 to s11, a call all registers except a0 and a7.
 
 start:      li a0, 2                # the prompt goes to descriptor 2
             la a1, prompt
@@ -41,7 +41,7 @@ change:     la s0, words
 
 # ---- a line and its words
 
-# read_line(): reads a line into `line`, byte by byte, with a 0 behind it; answers 0 where nothing came
+# read_line(): reads a line into `line`, byte by byte, with a 0 after it; returns 0 where nothing came
 read_line:  addi sp, sp, -32        # what is kept for the caller goes on the stack
             sd ra, 0(sp)
             sd s0, 8(sp)
@@ -67,8 +67,8 @@ line_read:  sb zero, 0(s0)
             addi sp, sp, 32
             ret
 
-# split(): puts the words of `line`, each with a 0 behind it, into `text`, and their addresses into `words`, with a 0 behind
-# the last. Words past the tenth are dropped.
+# split(): puts the words of `line`, each with a 0 after it, into `text`, and their addresses into `words`, with a 0
+# after the last. Words past the tenth are dropped.
 split:      la t0, line             # t0: what is read
             la t1, text             # t1: where the next byte of a word goes
             la t2, words            # t2: where the next address goes
@@ -123,14 +123,14 @@ run:        addi sp, sp, -64        # what is kept for the caller, and eight byt
             sd s2, 24(sp)
             sd s3, 32(sp)
             sd s4, 40(sp)
-            la s0, words            # s0: where the part's words stand
+            la s0, words            # s0: where the part's words are
             mv s1, zero             # s1: what it reads from, where that is a pipe: its read end; else 0
             mv s2, zero             # s2: how many children there are
 
 part:       mv s3, s0               # s3: where the part ends
 find_end:   ld t0, 0(s3)
             mv s4, zero             # s4: whether a part follows
-            beq t0, zero, end_found # the line's last word is behind
+            beq t0, zero, end_found # the line has no more words
             lbu t0, 0(t0)
             li t1, 124              # only the word | begins with one
             beq t0, t1, bar_found
@@ -154,7 +154,7 @@ kept:       beq s4, zero, wait_all  # it was the last part
             lw s1, 0(t0)            # the next part reads from this pipe
             lw a0, 4(t0)            # nobody but the child writes to it
             jal ra, close
-            addi s0, s3, 8          # its words stand behind the bar
+            addi s0, s3, 8          # its words follow the bar
             j part
 
 wait_all:   beq s2, zero, run_end   # for each child once
@@ -171,8 +171,8 @@ run_end:    ld ra, 0(sp)            # as the caller had them
             addi sp, sp, 64
             ret
 
-no_child:   la a0, no_fork          # no room for a child: the ends of the pipe behind the part are given back
-            beq s4, zero, stop      # there is no pipe behind the last part
+no_child:   la a0, no_fork          # no room for a child: the ends of the pipe after the part are given back
+            beq s4, zero, stop      # there is no pipe after the last part
             sd a0, 48(sp)           # closing takes a0
             la t0, ends
             lw a0, 0(t0)
@@ -183,7 +183,7 @@ no_child:   la a0, no_fork          # no room for a child: the ends of the pipe 
             ld a0, 48(sp)
             j stop
 no_ends:    la a0, no_pipe
-stop:       la a1, nothing          # a0: what is told
+stop:       la a1, nothing          # a0: what is printed
             la a2, line_end
             jal ra, complain
             beq s1, zero, wait_all  # the children that there are find the end of what they read or write
@@ -191,8 +191,8 @@ stop:       la a1, nothing          # a0: what is told
             jal ra, close
             j wait_all
 
-# The child: it takes its descriptors over, and becomes the program. dup gives the lowest descriptor that is free, which is the
-# one that was just closed.
+# The child: it takes its descriptors over, and becomes the program. dup gives the lowest descriptor that is free, which
+# is the one that was just closed.
 child:      beq s1, zero, reads
             li a0, 0                # descriptor 0 is the pipe before it
             jal ra, close
@@ -201,7 +201,7 @@ child:      beq s1, zero, reads
             mv a0, s1               # under one number is enough
             jal ra, close
 reads:      beq s4, zero, writes
-            li a0, 1                # descriptor 1 is the pipe behind it
+            li a0, 1                # descriptor 1 is the pipe after it
             jal ra, close
             la t0, ends
             lw a0, 4(t0)
@@ -213,7 +213,7 @@ reads:      beq s4, zero, writes
             lw a0, 4(t0)
             jal ra, close
 
-writes:     la s2, words            # s2: where the next argument's address goes, not behind the word that is read
+writes:     la s2, words            # s2: where the next argument's address goes, never after the word that is read
             mv s3, s2               # s3: where they begin
 word:       ld s1, 0(s0)            # s1: the word
             beq s1, zero, words_read
@@ -237,7 +237,7 @@ output:     li a0, 1                # > FILE: descriptor 1 is the file: to write
 redirect:   ld a0, 0(s0)            # the name
             addi s0, s0, 8
             beq a0, zero, no_name
-            mv s1, a0               # s1: the name, which is told where it can't be opened
+            mv s1, a0               # s1: the name, which is printed where it can't be opened
             jal ra, open            # this too gives the lowest descriptor that is free
             bge a0, zero, word
             la a0, open_word
