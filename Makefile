@@ -25,7 +25,7 @@ help:
 		/^[a-z][a-z-]*:/{split($$0, name, ":"); if (said) printf "%-15s %s\n", name[1], said; said = ""}' $(MAKEFILE_LIST)
 
 # Boots an image with the user programs, types two lines at its shell, and shows its console.
-# It takes the proved program where one stands that is not older than the sources. Else it compiles one, unproved, in some two minutes.
+# It takes the proved program if there is one that is not older than the sources. Else it compiles one, unproved, in some two minutes.
 demo:
 	@if $(IS_FRESH); then make -s image && tools/demo.sh $(PROGRAM) $(IMAGE) user/demo; else tools/demo.sh '' '' user/demo; fi
 
@@ -33,7 +33,7 @@ demo:
 test:
 	.ci/run
 
-# Proves what the program stands on, several crates at a time, and builds it: 48 minutes on two processors.
+# Proves what the program is built on, several crates at a time, and builds it: 48 minutes on two processors.
 # Where nothing was proved before, the time is noted for `make measure`.
 build:
 	@if $(IS_FRESH); then echo '$(PROGRAM) is proved and built'; else \

@@ -2,7 +2,7 @@
 #include "kernel/types.h"
 #include "user/user.h"
 
-/* Makes children, which end at once; answers how many. */
+/* Makes children, which end at once; returns how many. */
 static int fork_all(void)
 {
     int count = 0, pid;

@@ -46,14 +46,14 @@ static int has(const char *text, const char *pattern)
     }
 }
 
-/* Prints what stands in the buffer up to a line's end, or its piece, if it has the pattern. */
+/* Prints a line, or a piece of one, from the buffer if it has the pattern. */
 static void search_line(const char *line, const char *pattern)
 {
     if (has(line, pattern))
         printf("%s\n", line);
 }
 
-/* Searches the whole lines of the buffer, which has so many bytes; answers how many are left, at its start. */
+/* Searches the whole lines of the buffer, which has `count` bytes; returns how many are left, at its start. */
 static int search_lines(int count, const char *pattern)
 {
     char *line = buffer, *end;

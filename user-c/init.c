@@ -15,7 +15,7 @@ static void open_console(void)
     dup(0);
 }
 
-/* Answers the shell's pid. */
+/* Returns the shell's pid. */
 static int start_shell(void)
 {
     printf("init: starting sh\n");

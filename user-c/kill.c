@@ -2,7 +2,7 @@
 #include "kernel/types.h"
 #include "user/user.h"
 
-/* Answers the number that a word is, -1 where it is none or is above 2147483647. */
+/* Returns the number that a word is, -1 where it is none or is above 2147483647. */
 static int number_of(const char *word)
 {
     uint64 number = 0;

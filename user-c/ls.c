@@ -15,7 +15,7 @@ static void show(const char *name, const struct stat *of)
 }
 
 /* Joins a directory's path and the name of an entry, which has no 0 after it where it is as long as it may be;
-   answers the name's start. */
+   returns the name's start. */
 static char *join(char *path, const char *directory, const struct dirent *entry)
 {
     strcpy(path, directory);

@@ -222,7 +222,7 @@ static void run_part(void)
     exit(0);
 }
 
-/* Starts a child for each part; answers how many there are. */
+/* Starts a child for each part; returns how many there are. */
 static int start_pipeline(void)
 {
     int children = 0, input = -1, is_last;

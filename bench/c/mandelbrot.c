@@ -1,4 +1,4 @@
-/* Counts the rounds that the points of a grid take to leave the circle of radius 2, in numbers with 24 bits behind the point.
+/* Counts the rounds that the points of a grid take to leave the circle of radius 2, in numbers with 24 bits after the point.
    The status is 0 where they are as many as the same loop takes on another computer. */
 enum { COLUMNS = 192, ROWS = 128, MOST = 256, BITS = 24, WANTED = 1730067 };
 

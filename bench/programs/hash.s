@@ -1,4 +1,4 @@
-# hash: the hash FNV-1a over 1024 bytes, ROUNDS times one behind the other. MULTIPLY multiplies a0 by a1.
+# hash: the hash FNV-1a over 1024 bytes, ROUNDS times, one after the other. MULTIPLY multiplies a0 by a1.
 
             la s3, bytes
             la s4, end

@@ -16,12 +16,12 @@ fill:       andi t4, t0, 255
             addi t0, t0, 1
             bne t0, t3, fill
 
-            addi s11, s2, 256       # s11: behind the first row of the right one
+            addi s11, s2, 256       # s11: after the first row of the right one
             li s0, ROUNDS
 round:      mv s4, s1               # s4: a row
             mv s5, s3               # s5: where the next number goes
 row:        mv s6, s2               # s6: a column
-            addi s10, s4, 256       # s10: behind the row
+            addi s10, s4, 256       # s10: after the row
 column:     li s9, 0                # s9: the sum
             mv s7, s4
             mv s8, s6

@@ -1,6 +1,6 @@
 # pipe: a child writes 512 bytes ROUNDS times into a pipe, from which the parent reads TOTAL bytes.
 
-            la s1, ends             # s1: where the descriptors stand
+            la s1, ends             # s1: where the descriptors are
             la s2, bytes            # s2: what is written and read
             li s3, 512
             mv a0, s1

@@ -11,7 +11,7 @@ enum number {
 /* The flags of open. */
 enum { READ_ONLY = 0, WRITE_ONLY = 1, READ_WRITE = 2, CREATE = 0x200, TRUNCATE = 0x400 };
 
-/* What fstat tells of a file. */
+/* What fstat says of a file. */
 struct stat {
     int device;
     unsigned number;

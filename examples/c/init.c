@@ -1,4 +1,4 @@
-/* The first process: opens the console, has a child become the program /count, and tells how that ended. When it ends itself,
+/* The first process: opens the console, has a child become the program /count, and prints how that ended. When it ends itself,
    the machine halts. */
 #include "console.h"
 #include "print.h"

@@ -1,6 +1,6 @@
 /* lockstep.c IMAGE [LINE..]: boots an image, types the lines at it, and compares an interpreter with the machine of libxv6, instruction by
-   instruction: the registers, the pc, and the bytes that were stored. The machine does the calls; behind one the interpreter begins anew
-   with what the machine tells of the process. The first difference is told in three lines, and the status is 1 then. */
+   instruction: the registers, the pc, and the bytes that were stored. The machine does the calls; after one the interpreter begins anew
+   with what the machine shows of the process. The first difference is printed in three lines, and the status is 1 then. */
 #include "rv64.h"
 #include "xv6.h"
 
@@ -106,7 +106,7 @@ static int step_machine(void)
     return answer != 0 || done == 0;
 }
 
-/* Runs until nobody is ready. 1: there is a difference, and it was told. */
+/* Runs until nobody is ready. 1: there is a difference, and it was printed. */
 static int run(void)
 {
     for (;;) {

@@ -1,6 +1,6 @@
 # mix: a first process that does each instruction of arithmetic on each pair of a table of odd numbers, and each load and store.
 #
-# s0 is the place of the first number, s1 that of the second, s2 the table's end; a0 and a1 are the numbers.
+# s0 is the address of the first number, s1 that of the second, s2 the table's end; a0 and a1 are the numbers.
 
 start:      la s0, numbers
             la s2, end

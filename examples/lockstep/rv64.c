@@ -108,7 +108,7 @@ static unsigned of_registers(uint32_t word)
     return seven == 0 ? kind : seven == 1 ? kind + M : seven == 32 && (kind == 0 || kind == 5) ? kind + ALTERNATIVE : 99;
 }
 
-/* The operation of a word with an immediate whose shifts have so many bits, and the immediate. */
+/* The operation of a word with an immediate whose shifts have that many bits, and the immediate. */
 static unsigned of_immediate(uint32_t word, unsigned bits, uint64_t *value)
 {
     unsigned kind = word >> 12 & 7;

@@ -21,7 +21,7 @@ struct record {
 
 enum { DIRECTORY = 1, FILE_KIND, DEVICE };
 
-/* What lseek needs of a descriptor: how it was opened, and its place. There is no path where it wasn't opened here. */
+/* What lseek needs of a descriptor: how it was opened, and its offset. There is no path where it wasn't opened here. */
 static struct opened {
     char *path;
     int flags;
@@ -76,7 +76,7 @@ int close(int file)
     return told(kernel(CLOSE, file, 0, 0), EBADF);
 }
 
-/* Counts on from a place by bytes that came or went. */
+/* Moves the offset on by the bytes that came or went. */
 static long moved(int file, long count)
 {
     if (count > 0 && is_descriptor(file))
@@ -125,7 +125,7 @@ static int open_again(int file, unsigned number)
     return 0;
 }
 
-/* Reads on up to a place. */
+/* Reads on up to an offset. */
 static off_t read_up_to(int file, long place)
 {
     static char skipped[1024];
@@ -152,7 +152,7 @@ off_t lseek(int file, off_t offset, int whence)
     return read_up_to(file, place);
 }
 
-/* ---- what files tell */
+/* ---- what files are */
 
 static mode_t mode_of(short kind)
 {

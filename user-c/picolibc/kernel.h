@@ -19,7 +19,7 @@ static inline long kernel(enum number number, long first, long second, long thir
     return a0;
 }
 
-/* The kernel answers -1 to all that it refuses, and gives no reason: errno is the likeliest one of each call, a
+/* The kernel returns -1 for all that it refuses, and gives no reason: errno is the likeliest one of each call, a
    guess. */
 static inline long told(long answer, int reason)
 {

@@ -1,4 +1,4 @@
-/* seek: files by the standard's functions. Modes, places, names, errno, sscanf. */
+/* seek: files by the standard's functions. Modes, offsets, names, errno, sscanf. */
 #include <errno.h>
 #include <stdio.h>
 #include <string.h>

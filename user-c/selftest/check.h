@@ -43,13 +43,13 @@ void open_gate(int gate[2]);
 /* ---- limits */
 
 int pages(void);                                /* of this process */
-int page_frames(int pages);                     /* that so many pages take */
+int page_frames(int pages);                     /* that this many pages take */
 int process_frames(int pages);
 int frames_free(void);
-void leave_frames(int count);                   /* so many are free, until */
+void leave_frames(int count);                   /* `count` are free, until */
 void give_frames_back(void);
 
-int index_blocks(int blocks);                   /* of a file with so many blocks of data */
+int index_blocks(int blocks);                   /* of a file with that many blocks of data */
 int blocks_free(void);
 void leave_blocks(int count);                   /* at most 8, until */
 void give_blocks_back(void);
@@ -58,7 +58,7 @@ int inodes_free(void);
 void leave_inodes(int count);
 void give_inodes_back(void);
 
-int leave_open_files(int count);                /* answers how many were free */
+int leave_open_files(int count);                /* returns how many were free */
 void give_open_files_back(void);
 
 /* ---- program files */
@@ -90,7 +90,7 @@ extern struct program {
 #define CODE_AT ((uint64)((char *)program.code - (char *)&program))
 
 void make_program(const uint *code, int count); /* of one segment with these instructions */
-void save_program(const char *name, int count); /* as a file of so many bytes */
+void save_program(const char *name, int count); /* as a file of `count` bytes */
 
 /* ---- files and memory */
 
@@ -100,7 +100,7 @@ int links_of(const char *name);
 int number_of(const char *name);
 int is_text(const char *name, const char *text);        /* whether the file has it */
 
-void paint(char *from, int count, uchar byte);  /* so many bytes, a multiple of 8 at one */
+void paint(char *from, int count, uchar byte);  /* `count` bytes, a multiple of 8 at one */
 int is_painted(const char *from, int count, uchar byte);
 
 char *page_end(void);                           /* the end of memory that can be written: sbrk gives nothing here */

@@ -1,7 +1,7 @@
 /* sleep, uptime, and what ticks do. These tests need a clock: where no tick came so far they are left out. */
 #include "check.h"
 
-/* Whether a sleep of so many ticks takes exactly as many: a tick may come before it begins or after it ends, so it
+/* Whether a sleep of n ticks takes exactly n: a tick may come before it begins or after it ends, so it
    is tried again, but none takes less. */
 static int sleeps_exactly(int ticks)
 {

@@ -284,7 +284,7 @@ void test_read_stops_at_end(void)
     WANT(read(file, big, 3) == 3 && memcmp(big, "abc", 3) == 0);
     WANT(read(file, big, 3) == 2 && memcmp(big, "de", 2) == 0);
     WANT(read(file, big, 3) == 0);
-    fill("f", "abcdefg");                       /* the place stays */
+    fill("f", "abcdefg");                       /* the offset stays */
     WANT(read(file, big, 9) == 2 && memcmp(big, "fg", 2) == 0);
     WANT(unlink("f") == 0);
 }
@@ -302,7 +302,7 @@ void test_write_goes_over(void)
     WANT(unlink("f") == 0);
 }
 
-/* A place past the end, since the file was emptied. */
+/* An offset past the end, since the file was emptied. */
 void test_write_past_end(void)
 {
     fill("f", "abcdef");
@@ -392,7 +392,7 @@ void test_read_refuses_count(void)
     WANT(unlink("f") == 0);
 }
 
-/* All of the buffer has to be there, also where fewer bytes come; a refusal moves no byte and no place. */
+/* All of the buffer has to be there, also where fewer bytes come; a refusal moves no byte and no offset. */
 void test_read_refuses_buffer(void)
 {
     fill("f", "abc");
@@ -441,7 +441,7 @@ void test_read_crosses_pages(void)
     WANT(unlink("f") == 0);
 }
 
-/* A write puts as many bytes as there are blocks for; less than all of them answers -1. */
+/* A write puts as many bytes as there are blocks for; less than all of them returns -1. */
 void test_write_fills_disk(void)
 {
     fill("f", "");
@@ -454,7 +454,7 @@ void test_write_fills_disk(void)
     file = open("f", O_RDWR | O_TRUNC);
     WANT(write(file, big, 2 * BSIZE + 1) == -1);
     WANT(size_of("f") == 2 * BSIZE);
-    WANT(read(file, big, 1) == 0);              /* the place is after them */
+    WANT(read(file, big, 1) == 0);              /* the offset is after them */
     file = open("f", O_RDWR);
     WANT(read(file, big, sizeof big) == 2 * BSIZE && big[0] == 'x' && big[2 * BSIZE - 1] == 'x');
     file = open("f", O_RDWR | O_TRUNC);

@@ -110,7 +110,7 @@ int process_frames(int pages)
     return 4 + page_frames(pages);
 }
 
-/* Takes as many pages as there are; answers how many. */
+/* Takes as many pages as there are; returns how many. */
 static int take_pages(void)
 {
     int count = 0;
@@ -137,7 +137,7 @@ int frames_free(void)
     return page_frames(own + taken) - page_frames(own) + is_one_left;
 }
 
-/* Takes all frames but so many, as they are asked for by tests. */
+/* Takes all frames except `count`, as they are asked for by tests. */
 static void take_all_but(int count)
 {
     int all = take_pages(), own = pages(), back = 0;
@@ -181,7 +181,7 @@ int index_blocks(int blocks)
     return past > 0 ? 2 + (past + (int)NINDIRECT - 1) / (int)NINDIRECT : blocks > NDIRECT;
 }
 
-/* Writes to a new file until the disk is full; answers how many blocks it has. */
+/* Writes to a new file until the disk is full; returns how many blocks it has. */
 static int fill_file(int file, int piece)
 {
     struct stat told;
@@ -192,7 +192,7 @@ static int fill_file(int file, int piece)
 }
 
 /* Fills the disk by two files: one that takes blocks of its own for numbers of others, and a small one that takes
-   what is left then. Answers how many blocks that were. */
+   what is left then. Returns how many blocks that were. */
 static int fill_disk(void)
 {
     int large = open("large", O_CREATE | O_RDWR), small = open("small", O_CREATE | O_RDWR);

@@ -1,8 +1,8 @@
 /* Instructions: what they compute, and words that are none. */
 #include "check.h"
 
-/* ---- numbers: two operands, or one and a constant, and what comes of them by the manual. Half the rows tell
-   numbers of 32 bits from those of 64, signed ones from others, or meet a limit. */
+/* ---- numbers: two operands, or one and a constant, and what comes of them by the manual. Half the rows set
+   numbers of 32 bits apart from those of 64, signed ones from others, or meet a limit. */
 
 #define ROWS \
     OF_TWO(add, 0x7fffffffffffffff, 1, 0x8000000000000000) \
@@ -228,7 +228,7 @@ void test_instructions_are_refused(void)
 #define OTHERS "1,3,4,6,7,8,9,13,14,15,16,18,19,20,21,22,23,24,25,26,27,28,29,30,31"
 
 /* Does a call with registers of all kinds set: the stack pointer and those of arguments are kept in a list to compare with, t0
-   points to the list, and each other one is 1000 and its number. Answers how many changed, a0 left out. */
+   points to the list, and each other one is 1000 and its number. Returns how many changed, a0 left out. */
 static __attribute__((noinline)) int changed_by(long number, long first, long second, long third)
 {
     uint64 kept[32] = { 0 };

@@ -15,7 +15,7 @@ static const struct test {
 
 /* ---- what this program does where a test executes it */
 
-/* The registers as the program began, but for ra and t0. */
+/* The registers as the program began, except ra and t0. */
 uint64 first_registers[32];
 
 /* Keeps them, and goes on with begin. */
@@ -28,7 +28,7 @@ __asm__(
     "        .endr\n"
     "        tail    begin\n");
 
-/* The registers after exec are those before it, but for sp, a0 and a1. */
+/* The registers after exec are those before it, except sp, a0 and a1. */
 static void want_registers(void)
 {
     static const short wanted[32] = {
@@ -123,7 +123,7 @@ static int is_asked_for(const char *name, int argc, char *argv[])
     return argc < 2;
 }
 
-/* Answers whether it failed. */
+/* Returns whether it failed. */
 static int do_test(const struct test *test)
 {
     int status, pid = fork();

@@ -267,7 +267,7 @@ void test_pipe_takes_write_in_parts(void)
     wait_for(pid);
 }
 
-/* The places of the pipe are used round and round. */
+/* The bytes of the pipe's ring are used round and round. */
 void test_pipe_goes_round(void)
 {
     char byte = 0, wanted = 0;

@@ -162,7 +162,7 @@ void test_fork_holds_directory(void)
     WANT(inodes_free() == count);
 }
 
-/* Children are made until that is refused; all wait. The kernel has 64 places, and process 1, its shell, this
+/* Children are made until that is refused; all wait. The kernel has 64 slots, and process 1, its shell, this
    program and this test are there. */
 void test_fork_fills_places(void)
 {
@@ -366,7 +366,7 @@ void test_wait_writes_status(void)
     }
 }
 
-/* The first place with a zombie, and not the first zombie. */
+/* The first slot with a zombie, and not the first zombie. */
 void test_wait_takes_first_place(void)
 {
     int gate[2], ended[2], status;
@@ -561,7 +561,7 @@ static void prepare(void)
     make_gate(order);
 }
 
-/* Collects so many letters, in the order of turns. */
+/* Collects `count` letters, in the order of turns. */
 static void collect(char *letters, int count)
 {
     for (int got = 0; got < count; )
@@ -583,7 +583,7 @@ static void go_round(char *letters)
     collect(letters, 3);
 }
 
-/* b has bytes for a and for c: the next turn is that of the place after its own. */
+/* b has bytes for a and for c: the next turn is that of the slot after its own. */
 static void go_on_after_last(char *letters)
 {
     int second[2];
@@ -604,7 +604,7 @@ static void go_on_after_last(char *letters)
     collect(letters, 3);
 }
 
-/* d has the place that b had. */
+/* d has the slot that b had. */
 static void go_by_places(char *letters)
 {
     int status;

@@ -160,7 +160,7 @@ void test_exec_clears_memory(void)
     WANT(wait(&status) == pid && status == 0);
 }
 
-/* The new program's frames but for one of the process have to be free while the old one is held. */
+/* The new program's frames, except one of the process, have to be free while the old one is held. */
 void test_exec_takes_frames(void)
 {
     static int need;
@@ -192,7 +192,7 @@ void test_exec_refused_takes_no_frames(void)
 
 /* ---- program files, made here */
 
-/* The status of the program with so many bytes of the file: 99 where exec refuses it. */
+/* The status of the program with the first `count` bytes of the file: 99 where exec refuses it. */
 static int run_bytes(int count)
 {
     save_program("p", count);

@@ -8,7 +8,7 @@ static void put_text(int file, const char *text)
     write(file, text, strlen(text));
 }
 
-/* At least so many digits. */
+/* At least `least` digits. */
 static void put_number(int file, uint64 number, uint base, int least)
 {
     char digits[20];
@@ -34,7 +34,7 @@ static void put_address(int file, uint64 address)
     put_number(file, address, 16, 16);
 }
 
-/* Answers how many bytes of the text stand before the next %, or before its end. */
+/* Returns how many bytes of the text come before the next %, or before its end. */
 static int plain(const char *text)
 {
     int count = 0;
@@ -43,7 +43,7 @@ static int plain(const char *text)
     return count;
 }
 
-/* Prints what % and the letters after it ask for; answers where the text goes on. */
+/* Prints what % and the letters after it ask for; returns where the text goes on. */
 static const char *convert(int file, const char *percent, va_list *with)
 {
     const char *form = percent + 1;
@@ -78,7 +78,7 @@ static const char *convert(int file, const char *percent, va_list *with)
         break;
     case 0:                     /* the text ends here */
         return form;
-    default:                    /* as it stands */
+    default:                    /* as it is */
         write(file, percent, form + 1 - percent);
     }
     return form + 1;

@@ -52,7 +52,7 @@ void *memset(void *to, int byte, uint count)
     return to;
 }
 
-/* The places may overlap. */
+/* The two may overlap. */
 void *memmove(void *to, const void *from, int count)
 {
     char *out = to;

@@ -20,7 +20,7 @@ static uint64 rounded(uint64 count)
     return (count + UNIT - 1) / UNIT * UNIT;
 }
 
-/* Asks the kernel for so many bytes at a multiple of 16. Others may have called sbrk, so its end may be none. */
+/* Asks the kernel for `size` bytes at a multiple of 16. Others may have called sbrk, so its end may be none. */
 static struct block *grow(uint64 size)
 {
     uint64 end = (uint64)sbrk(0), start = rounded(end);
@@ -66,7 +66,7 @@ void free(void *address)
         join(before);
 }
 
-/* Takes so many bytes of the first free block that has them, from its end: 0 where there is none. */
+/* Takes `size` bytes of the first free block that has them, from its end: 0 where there is none. */
 static void *take(uint64 size)
 {
     for (struct block *before = &first, *block; (block = before->next); before = block) {

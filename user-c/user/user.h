@@ -15,7 +15,7 @@ int read(int file, void *to, int count);        /* how many bytes came: 0 at the
 int write(int file, const void *from, int count);       /* count */
 int close(int file);
 int kill(int pid);
-int exec(const char *path, char *words[]);      /* comes back where it is refused; after the last word stands a 0 */
+int exec(const char *path, char *words[]);      /* returns only where it is refused; a 0 follows the last word */
 int open(const char *path, int flags);          /* a descriptor */
 int mknod(const char *path, short major, short minor);
 int unlink(const char *path);
