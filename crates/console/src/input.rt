@@ -239,8 +239,7 @@ impl Console {
     }
 
     /// Takes bytes for a read that still has a count of `n`, and already has some bytes or none.
-    /// It ends at its count, after a line feed, or before ^D; with none yet it takes the ^D, which is none of its
-    /// bytes.
+    /// It ends at its count, after a line feed, or before ^D; with none yet it takes the ^D, which isn't one of them.
     /// If the bytes run out first the read isn't over.
     pub fn take(&mut self, n: usize, has_some: bool, buffer: &mut [u8; ROOM]) -> Taken
         ensures took { take_line has_some n self.old.committed ≡ record {

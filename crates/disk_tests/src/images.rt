@@ -147,7 +147,7 @@ fn put(bytes: &mut [u8], changes: &[Change]) {
     }
 }
 
-/// The bytes of the small image, its magic number beginning so, with these changes, one list after the other.
+/// The bytes of the small image with this first byte of its magic number, and these changes, one list after the other.
 pub fn bytes_of(rt: &(impl Abort + AllocGlobal), magic: u8, lists: &[&[Change]]) -> Vec<u8> {
     let mut bytes = vec![in rt.alloc(); 0; 32 * 1024].expect(rt, "memory");
     put(bytes.as_mut_slice(), &SMALL);
@@ -192,7 +192,7 @@ fn told_within(
 // That is how many inodes and blocks are in use, or what is wrong.
 struct Case {
     name: &'static str,
-    /// Whether this is returned where the image is to have the large format, and the small one.
+    /// Whether this is expected in the large format, and in the small one.
     large: bool,
     small: bool,
     lists: &'static [&'static [Change]],
@@ -570,7 +570,7 @@ fn in_use(told: Result<Summary, ImageFault>) -> Result<(usize, usize), ImageFaul
     Ok((summary.inodes, summary.blocks))
 }
 
-// Whether a check of the image in each format that it is to have returns this.
+// Whether a check returns this in each format of the case.
 fn is_told(rt: &(impl Abort + AllocGlobal), case: &Case) -> bool {
     (!case.large || in_use(told_of(rt, case.lists)) == case.told)
         && (!case.small || in_use(told_small(rt, case.lists)) == case.told)
@@ -645,7 +645,7 @@ fn expect_refusals(rt: &(impl Abort + AllocGlobal), lists: &[&[Change]], is_copi
 // A check of a device that lends no bytes keeps the whole image. This is too little for it.
 const TOO_LITTLE: usize = 32 * 1024 - 256;
 
-// As many units of 16 bytes more as a check of the small image takes, and more.
+// More units of 16 bytes than a check of the small image takes.
 const ENOUGH: usize = 160;
 
 #[test]

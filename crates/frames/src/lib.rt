@@ -211,10 +211,8 @@ impl Frames {
         }
     }
 
-    /// Takes a holder away from a frame that has two or more, and gives that holder a free frame instead, whose bytes
-    /// may be
-    /// anything.
-    /// There always is one, and `free` stays.
+    /// Takes a holder away from a frame that has two or more, and gives that holder a free frame instead.
+    /// Its bytes may be anything. There always is one, and `free` stays.
     pub fn split(&mut self, ram: &Ram, frame: FrameNo) -> FrameNo
         requires valid { IsFreeList ram.now self.old }
         requires shared { 2 ≤ holders_of ram.now self.old frame.0 }

@@ -261,8 +261,7 @@ grandchild =
     let two = (ask one 1 fork).state in
     (ask two 1 (exit 0)).state
 
--- process 1 waits; its child, whose next word is 0, is picked and killed by it; then process 1 is picked, and wait
--- returns
+-- process 1 waits; its child, whose next word is 0, is picked and killed by it; then process 1 goes on
 abbrev waiting : State
 waiting = ask_all (flat_state 256) (fork ∷ wait 8200 ∷ [])
 
@@ -306,7 +305,7 @@ abbrev three : State
 three = record (ask_all (flat_state 256) (fork ∷ fork ∷ [])) { last = 0 }
 
 kill_sleep_and_turn : record {
-  -- a zombie can be marked; pid 0, -1 and one that is not in use can't; a process that marks itself gets its answer and
+  -- a zombie can be marked; pid 0, -1 and one that is not in use can't; a process that marks itself gets its result and
   -- ends
   kills : answers_to child_exits (kill 2 ∷ kill 0 ∷ kill (below_zero 1) ∷ kill 3 ∷ kill 1 ∷ []) ≡ 0 ∷ minus_one
       ∷ minus_one ∷ minus_one ∷ 0 ∷ [];

@@ -157,7 +157,7 @@ plans = record {
 
 -- ---- small cases of the page-table walk
 
--- where an access at an address comes to by the tables from a root, and how many entries were read
+-- where an access at an address leads by the tables from a root, and how many entries were read
 abbrev walked : List (List ℕ) → ℕ × ℕ × Access → Option ℕ × ℕ
 walked ram way = (walk ram way.0 way.1 way.2, walk_count ram way.0 way.1 way.2)
 

@@ -37,9 +37,7 @@ pub trait Folder {
         ensures ok { OnOk result (Known Syncs (held self.old) (held self.new)) }
         ensures err { OnErr result (Known IsSame (held self.old) (held self.new)) };
 
-    /// Gives the file that was begun last, and is on the disk, another name, and replaces the file that has it, if
-    /// there is
-    /// one.
+    /// Gives the file that was begun last, and is on the disk, another name; a file that has the name is replaced.
     /// At no moment has neither the name.
     fn rename(&mut self, one: &str, other: &str) -> Result<(), StepFault>
         requires apart { one.now ≢ other.now }

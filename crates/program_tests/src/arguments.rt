@@ -47,9 +47,8 @@ fn place(rt: &(impl Abort + AllocGlobal)) -> Spaces<Plain> {
     spaces
 }
 
-// What a program of one page gets where argv, at address 0, has `words` words, each of which points to a string of
-// `len`
-// bytes.
+// What a program of one page gets where argv, at address 0, has `words` words.
+// Each of them points to a string of `len` bytes.
 fn arguments(rt: &(impl Abort + AllocGlobal), words: u64, len: usize) -> Option<Arguments> {
     let mut spaces = place(rt);
     let string = [b'a'; 4080];

@@ -66,9 +66,8 @@ fn has_page(ram: &Ram, root: FrameNo, page: u64) -> bool {
 }
 
 /// Returns the oldest translation that it may hold.
-/// At each call it notes the translation that is asked for, and those of the root's pages from page 0 on, up to the
-/// first
-/// that isn't mapped.
+/// At each call it notes the translation that is asked for, and those of the root's pages from page 0 on.
+/// It stops at the first page that isn't mapped.
 #[derive(Drop)]
 pub struct Noting {
     notes: Vec<Note>,

@@ -2,17 +2,14 @@
 //! typed at their consoles shows what each program does.
 //!
 //! Standard input has sessions, with an empty line between two.
-//! The first line of one is its title, the second `boot IMAGE FRAMES`, and the others are a script as `xv6 flat` takes
-//! it.
-//! Images are `xv6.img` and `small.img`; `tests.img`, which has the compiled program `selftest`; `migrated.img`, which
-//! was
-//! made of an image of the small format with the files of `xv6.img`; and `left.img`, which the session before left.
+//! The first line of one is its title, the second `boot IMAGE FRAMES`, and the others a script as `xv6 flat` takes it.
+//! Images are `xv6.img` and `small.img`; `tests.img`, which has the compiled program `selftest`; `migrated.img`, made
+//! of an image of the small format with the files of `xv6.img`; and `left.img`, which the session before left.
 //! Of each session it prints the title, the console's bytes and a line end, and a line that says how it ended, how many
 //! frames were free then, and what the image that it leaves uses.
 //!
-//! Each is played on six machines, all of which have to show and to leave the same: over each of five translators, and
-//! on
-//! a disk beside a cache without memory.
+//! Each is played on six machines, all of which have to show and to leave the same.
+//! Five are over a translator each, and one is on a disk beside a cache without memory.
 //!
 //! Where `fail` stands for `boot`, the session is played again and again, each time with another access of its disk
 //! that fails.
