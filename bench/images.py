@@ -87,7 +87,7 @@ class Image:
         struct.pack_into(f"<{len(numbers)}I", self.bytes, BLOCK * block, *numbers)
 
     def finish(self, contents):
-        """The whole image, once each inode is written: a directory's places, or the bytes of a file. And what `xv6 check`
+        """The whole image, once each inode is written: a directory's entries, or the bytes of a file. And what `xv6 check`
         says of it."""
         for number, kind in self.kinds.items():
             places = b"".join(struct.pack("<H14s", to, name) for name, to in self.entries.get(number, []))

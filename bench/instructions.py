@@ -14,15 +14,15 @@ machine is:
 
 says that a child takes 45155 instructions of the program BEFORE, and 1.000 times as many of AFTER. The last number is the ratio
 without what the host's library takes to fill and copy memory: callgrind counts an instruction for each byte of a large block
-there, which hides all else. A ratio above 1.02 is told as MORE. `--functions N` tells beneath a row the N functions whose own
+there, which hides all else. A ratio above 1.02 is marked MORE. `--functions N` prints beneath a row the N functions whose own
 instructions differ most, in instructions a unit. It takes programs with symbols; what is inlined counts for the function that it
 is in.
 
-With `--plain` it is one program, in the rows of flat programs whose unit is a step, and beside it stand the plain interpreter,
+With `--plain` it is one program, in the rows of flat programs whose unit is a step, and beside it are the plain interpreter,
 the same with `--tlb`, and its twin.
 
-Each program makes its own images and assembles its own texts. What ran has to print and answer what the benchmark's row does.
-A row that fails in one of them is told as such, and the status is 1 then. It takes Debian's valgrind in the PATH, and some
+Each program makes its own images and assembles its own texts. What ran has to print and return what the benchmark's row says.
+A row that fails in one of them is marked, and the status is 1 then. It takes Debian's valgrind in the PATH, and some
 minutes of a processor; compare programs that were built alike.
 """
 

@@ -1,6 +1,6 @@
 """What a row of the benchmark runs: programs on the machine, and the commands of `xv6` on texts and images.
 
-Each job makes its files in a folder of its own, and answers the command to be timed.
+Each job makes its files in a folder of its own, and returns the command to be timed.
 """
 
 import dataclasses
@@ -46,7 +46,7 @@ def compile_plain(place):
 
 class Program:
     """An assembly text of `bench/programs` with a number for each of its names in capitals, or of another folder.
-    Where `pages` are given, its segment has so many, filled up with zeros."""
+    Where `pages` are given, its segment has that many, filled up with zeros."""
 
     def __init__(self, name, pages=None, folder=HERE / "programs", **numbers):
         self.text = folder / f"{name}.s"

@@ -16,7 +16,7 @@ class Failed(Exception):
 @dataclasses.dataclass(frozen=True)
 class Command:
     """A command that is ready to be run in a folder: what it has to write to standard output, what standard error has to
-    be, as a regular expression, and a command that has to succeed behind it, if there is one."""
+    be, as a regular expression, and a command that has to succeed after it, if there is one."""
 
     words: list
     folder: pathlib.Path

@@ -13,7 +13,7 @@ USER = HERE.parent / "user"
 
 @dataclasses.dataclass(frozen=True)
 class Beside:
-    """A job whose time is told beside that of a row: what it is, at most how often the row's may have its time, and how many
+    """A job whose time is printed beside that of a row: what it is, at most how often the row's may have its time, and how many
     units it does, where the cost of one is to be compared."""
 
     what: str

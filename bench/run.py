@@ -2,9 +2,9 @@
 """Times `xv6` on the rows of a table, each beside what its time is to be compared with.
 
     bench/run.py [--only WORDS] [--turns N] PROGRAM     as `make bench` calls it
-    bench/run.py --list                                 what each row measures, its unit, and what stands beside it
+    bench/run.py --list                                 what each row measures, its unit, and what is beside it
 
-There are programs on the machine, which stand beside a plain Rust interpreter of the same design where it has what they need,
+There are programs on the machine, which are beside a plain Rust interpreter of the same design where it has what they need,
 and else beside the same at another size; and the commands that make and check images and assemble texts. For example
 
     tight loop with --tlb: 1.294 s, 12.9 ns for each step, peak 3052 KiB
@@ -13,11 +13,11 @@ and else beside the same at another size; and the commands that make and check i
 
 says that the row took 1.294 seconds of processor time, 1.13 times as long as the plain interpreter and 1.15 times as long as
 without the flag, where at most 1.1 is wanted. Where the job beside a row does fewer units, `1.02 for each byte` says that a
-byte of the row took 1.02 times as long as one of that job. A row is run turn by turn with what stands beside it, so that other
+byte of the row took 1.02 times as long as one of that job. A row is run turn by turn with what is beside it, so that other
 work on the machine slows both, and the least times are taken.
 
-What ran has to print and answer what the table says: the programs look at each answer that they get, and end with status 1
-where it is wrong. A row that fails is told as such, and the status is 1 then. A ratio that is too high changes no status.
+What ran has to print and return what the table says: the programs look at each result that they get, and end with status 1
+where it is wrong. A row that fails is marked, and the status is 1 then. A ratio that is too high changes no status.
 
 The twin is another plain interpreter, the fastest that we know: it decodes a word once, and has nothing but the call exit.
 `instructions.py` counts the instructions of the processor for a unit of a row, where valgrind is there;

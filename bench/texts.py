@@ -28,7 +28,7 @@ def flat_manifest(count):
 
 
 def chain_manifest(depth):
-    """The manifest of directories that stand in one another, and what `xv6 check` says. A path is as long as its directory is
+    """The manifest of directories that are in one another, and what `xv6 check` says. A path is as long as its directory is
     deep, so the text is four times as long where it is twice as deep."""
     text = "".join(f"dir {'/d' * (level + 1)}\n" for level in range(depth))
     return text, f"ok {depth + 1} inodes {depth + 1} blocks\n".encode()

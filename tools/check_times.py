@@ -3,7 +3,7 @@
 
     cd crates/calls && rm -rf out/incremental && rt check --jobs 1 && ../../tools/check_times.py
 
-It reads when each file that the check kept in out/incremental was written, so it tells the truth only after a check
+It reads when each file that the check kept in out/incremental was written, so it is right only after a check
 from nothing with one job. `Proof` and `Answers` are the search for a function's goals, `Lts` and `Tie` follow the size
 of its code.
 """

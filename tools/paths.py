@@ -5,7 +5,7 @@ The status is 1 where there is one. `.ci/run` runs it.
 
 A path is a word with a slash that begins with a folder of the top or ends in a known suffix. It may begin at the top, in crates/,
 in a crate, in user-c/, or beside the file that names it. A word in capitals, as CRATE, and a star stand for anything. What is made
-(out/, what `make` is told to make, a target of a Makefile) and what a C text includes is not looked for.
+(out/, what `make` is asked to make, a target of a Makefile) and what a C text includes is not looked for.
 """
 import pathlib
 import re

@@ -7,7 +7,7 @@
     tools/prove.py --changed HEAD~3   what differs from that commit
 
 Without --changed as many checks run side by side as there are processors, and 3 GB of free memory for each (--jobs N: N of
-them); with it they run one after the other, each with so many jobs. A crate waits for those below it. What was proved
+them); with it they run one after the other, each with that many jobs. A crate waits for those below it. What was proved
 already and has not changed costs a look. With --below the checks that run side by side have copies of the crates, below .git/lanes
 while they last.
 The status is 0 where all is proved; else what the check of a crate said is printed. This is for work: `rt ci` alone is the
@@ -133,7 +133,7 @@ def chains(names, crates):
 
 def lay_lane(root, names):
     """A folder with copies of these crates, in which one rt works beside those in other folders: rt locks the folder of a crate and of all
-    below it, and nearly all stand on one, so two in the same folder would wait for each other."""
+    below it, and nearly all are built on one, so two in the same folder would wait for each other."""
     for name in names:
         shutil.copytree(CRATES / name, root / "crates" / name, ignore=shutil.ignore_patterns("out", "must-fail", "edits"))
     lines = read_lines()
@@ -201,7 +201,7 @@ def prove_below(name, jobs):
 
 def prove_in(lanes, names, crates):
     """These crates in these lanes, each once all below it are libraries, the longest chains first, up to the first that isn't proved. What
-    begins while there are more lanes than crates to begin with has so many jobs."""
+    begins while there are more lanes than crates to begin with has that many jobs."""
     started, chain = time.monotonic(), chains(names, crates)
     left, done, at_work, free = set(names), set(), {}, SimpleQueue()
     for lane in lanes:

@@ -6,7 +6,7 @@
 The access of the number N fails by `--fail N`. As N grows, the boot meets it (`fault 3 Device`), then the run, and then the save
 (both `halt 2 Device`), and at last nobody. Looked at are the line, the status, that nothing is saved after a failure, and that the
 console has a beginning of what the whole session prints, up to the end of an event. Every other run has `--tlb`. The last line
-tells how many accesses failed each; the status is 1 where an answer is wrong.
+says how many accesses failed each; the status is 1 where a result is wrong.
 """
 
 import functools

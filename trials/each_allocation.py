@@ -3,10 +3,10 @@
 
     trials/each_allocation.py PROGRAM        as `make refusals` calls it
 
-A run has to do the same as without the refusal, or to tell that memory is wanting, with status 1, and then what it was to write is
-not there. The lines that tell so are NoMemory of its command, and `no memory`, where the program itself found none; a file that
-can't be held in memory can't be read. Told is, for each command, how many requests there are and which lines came how often. The
-status is 1 where an answer is wrong.
+A run has to do the same as without the refusal, or to report that memory is lacking, with status 1, and then what it was to write is
+not there. The lines that report it are NoMemory of its command, and `no memory`, where the program itself found none; a file that
+can't be held in memory can't be read. Printed is, for each command, how many requests there are and which lines came how often. The
+status is 1 where a result is wrong.
 
 The requests are those of `malloc` and `realloc`, refused by a small library that is loaded before glibc and that `cc` compiles.
 `rt try --fail-alloc N` refuses the N-th of them too, in a program that is compiled with checks, but anew for each N: a minute a run.

@@ -1,14 +1,14 @@
 #!/usr/bin/env python3
-"""Hands `xv6` random files, and tells what it answers that it should not.
+"""Hands `xv6` random files, and reports what it does that it should not.
 
     trials/fuzz.py [--seconds N] [--seed N] [--only WORDS] [--keep FOLDER] PROGRAM     as `make fuzz` calls it
 
 Scripts, manifests, assembly texts, images and program files are made from good ones (those of `user/`, and what the program
-itself makes of them) by random changes, and each is handed to a random command that takes it. Told are: a status other than 0, 1
+itself makes of them) by random changes, and each is handed to a random command that takes it. Reported are: a status other than 0, 1
 and 2, a signal, a run that takes longer than its limit, a line that no page of docs/ has, and lines that don't fit their status.
 The files of such a run are kept, with its words. The same seed makes the same runs, as far as the time lasts.
 
-The status is 1 where something was told.
+The status is 1 where something was reported.
 """
 
 import argparse

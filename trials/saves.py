@@ -10,9 +10,9 @@
 at a random moment after the new file was begun. Each time OUT must have the old bytes or the new ones, whole. A file that was
 begun is left beside where the program was killed as it was written: these are counted, and removed.
 
-`full` saves an image of 32 blocks and one of 200 to a file system that has room for so many pages, from none to all of them:
+`full` saves an image of 32 blocks and one of 200 to a file system that has room for n pages, from none to all of them:
 a small tmpfs where one can be mounted (that needs root, or `unshare`), and then under a limit on the length of files. Each time
-OUT must have the old bytes and no other file be left where the program answers 1, and the new bytes where it answers 0.
+OUT must have the old bytes and no other file be left where the status is 1, and the new bytes where it is 0.
 
 `places` saves to a link, to a link that leads nowhere, to a pipe and to standard output, over a file of permissions of its own,
 over one that may not be written, and into a folder that takes no new file, with a file that may be written and without. It puts

@@ -174,7 +174,7 @@ def terminate(folder):
 
 
 def spin(folder):
-    """Keys are echoed while a program spins, and obeyed behind it; ^A x ends a session in which one does."""
+    """Keys are echoed while a program spins, and obeyed after it; ^A x ends a session in which one does."""
     session = Session(folder, with_program(folder, "spin", SPIN))
     session.until(b"$ ")
     session.type(b"spin\n")

@@ -10,7 +10,7 @@ command -v wasm-opt > /dev/null || { echo 'wasm-opt is missing: apt install bina
 command -v rt > /dev/null || { echo 'rt is missing: install the Rattle kit' >&2; exit 1; }
 kit=$(dirname "$(rt doc)")
 
-# A kit of links to the other one's files, but for clang. What was proved with the one counts with the other.
+# A kit of links to the other one's files, except clang. What was proved with the one counts with the other.
 own=$out/kit
 rm -rf "$own"
 mkdir -p "$own/bin" "$own/toolchain/bin"

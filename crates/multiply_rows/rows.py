@@ -4,7 +4,7 @@
     crates/multiply_rows/rows.py > crates/multiply_rows/stdin
 
 A row is an instruction's name, its word (rd is 5, rs1 is 6, rs2 is 7), what the registers 6 and 7 hold, and what register 5
-holds behind it: numbers in hexadecimal digits. What they hold behind it is worked out by Python's whole numbers. Each
+holds after it: numbers in hexadecimal digits. What they hold after it is worked out by Python's whole numbers. Each
 instruction has all pairs of the edges of 32 and 64 bits, and random ones, which are the same in each run.
 """
 
