@@ -8,11 +8,11 @@
 //!   remembered for stores, so each store there goes a slow way, which forgets what it overwrites;
 //! - what a step touches comes as an argument of its own, so the compiler knows that they are apart;
 //! - one number ends a straight run of operations, at the page's end and where the steps are done;
-//! - a branch within its page leads to a place in its table; x0 as a target is decoded to a register
+//! - a branch within its page leads to an index of its table; x0 as a target is decoded to a register
 //!   that nobody reads;
-//! - one comparison tells that an address is aligned and that its page is remembered.
+//! - one comparison shows that an address is aligned and that its page is remembered.
 //!
-//! It knows RV64IM and the call exit; every other call answers -1. A script's lines `step N` say how
+//! It knows RV64IM and the call exit; every other call returns -1. A script's lines `step N` say how
 //! far it goes, and the first step is the turn in which the process gets the hart.
 //!
 //!     rustc -O -C codegen-units=1 -o twin twin.rs
@@ -155,7 +155,7 @@ enum Kind {
     Mul, Mulh, Mulhsu, Mulhu, Div, Divu, Rem, Remu, Mulw, Divw, Divuw, Remw, Remuw, Fence, Ecall,
 }
 
-/// A decoded word. The value is the immediate operand, or of a branch within its page the place that
+/// A decoded word. The value is the immediate operand, or of a branch within its page the index that
 /// it leads to.
 #[derive(Clone, Copy)]
 struct Operation {
@@ -215,7 +215,7 @@ fn value_of(word: u32) -> i32 {
     }
 }
 
-/// What a word at a place of its page does.
+/// What a word at an index of its page does.
 fn decode(word: u32, place: usize) -> Operation {
     let register = |lowest: u32| (word >> lowest & 31) as u8;
     let (kind, value) = (kind_of(word), value_of(word));
@@ -233,7 +233,7 @@ fn decode(word: u32, place: usize) -> Operation {
     }
 }
 
-/// The operations of a frame: each is that of the word at its place, or unknown.
+/// The operations of a frame: each is that of the word at its index, or unknown.
 struct Table {
     frame: usize,
     operations: [Operation; FRAME / 4],
@@ -270,7 +270,7 @@ fn clear_table(table: &mut Table, translations: &mut Translations, frame: usize)
 
 // ---- one operation
 
-/// Why the next operation isn't the one behind this one.
+/// Why the next operation isn't the one after this one.
 enum Leave {
     Within(usize),
     Jump(u64),
@@ -519,14 +519,14 @@ fn store_slowly(
 
 // ---- many operations
 
-/// Why a run ended, behind its last step.
+/// Why a run ended, after its last step.
 enum Stop {
     Count,
     Call,
     Fault,
 }
 
-/// At most so many steps from a pc on; how many of them are left, and the pc then.
+/// At most that many steps from a pc on; how many of them are left, and the pc then.
 #[inline(never)]
 fn run(
     registers: &mut Registers,
@@ -606,7 +606,7 @@ impl Process {
         Some(Process { registers, frames, translations, tables: tables.try_into().ok()?, pc: 0 })
     }
 
-    /// At most so many steps; how many are left, and the status where it ends.
+    /// At most that many steps; how many are left, and the status where it ends.
     fn go(&mut self, mut left: usize) -> (usize, Option<i32>) {
         while left > 0 {
             let Process { registers, frames, translations, tables, pc } = self;

@@ -2,7 +2,7 @@
 //! one block of frames, each access walks three levels of Sv39 tables in it, or with `--tlb` looks
 //! first at what is remembered of 64 pages for each kind of access, and each step decodes its
 //! instruction from the word. It knows RV64IM, the calls fork, exit, wait, pipe, read, sbrk, write and
-//! close, 64 places of processes that take turns, pipes whose bytes lie in a frame, and a console with
+//! close, 64 slots of processes that take turns, pipes whose bytes lie in a frame, and a console with
 //! keys. A fork shares the pages until they are written, or with `--copying` copies them at once. A
 //! script's lines `step N`, `tick N`, `type TEXT` and `keys HEX` say what happens.
 //!
@@ -18,7 +18,7 @@ mod transfers;
 
 use machine::Machine;
 
-/// Takes a flag from the words, and tells whether it was there.
+/// Takes a flag from the words, and returns whether it was there.
 fn take_flag(words: &mut Vec<String>, flag: &str) -> bool {
     let before = words.len();
     words.retain(|word| word != flag);

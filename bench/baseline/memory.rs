@@ -47,7 +47,7 @@ pub struct Memory {
     pub bytes: Vec<u8>,
     free: Vec<u32>,
     holders: Vec<u16>,
-    // The sum of all holders beyond the first of a frame: so many free frames are spoken for.
+    // The sum of all holders beyond the first of a frame: that many free frames are spoken for.
     extra: usize,
 }
 

@@ -76,7 +76,7 @@ impl Machine {
         }
     }
 
-    /// Where an address stands, by a walk of the tables.
+    /// Where an address lies, by a walk of the tables.
     pub fn translate(&self, address: u64, access: Access) -> Option<usize> {
         let high = address as i64 >> 38;
         if high != 0 && high != -1 {
@@ -109,7 +109,7 @@ impl Machine {
         None
     }
 
-    /// Where an address stands, by what is remembered where there is room for that.
+    /// Where an address lies, by what is remembered where there is room for that.
     #[inline(always)]
     pub fn locate(&mut self, address: u64, access: Access) -> Option<usize> {
         let page = address >> 12;
@@ -140,7 +140,7 @@ impl Machine {
         self.translate(address, Access::Store)
     }
 
-    // The table of level 0 and the place in it of the entry for an address, which maps a page.
+    // The table of level 0 and the index in it of the entry for an address, which maps a page.
     fn leaf_at(&self, root: u32, address: u64) -> Option<(u32, u64)> {
         if address >> 38 != 0 {
             return None;

@@ -26,7 +26,7 @@ pub struct Transfer {
     count: u64,
 }
 
-/// A pipe: its bytes are the `held` ones from place `first` on of a ring in a frame.
+/// A pipe: its bytes are the `held` ones from index `first` on of a ring in a frame.
 pub struct Pipe {
     frame: u32,
     first: usize,
