@@ -119,7 +119,7 @@ impl<'r, E: Write> Reporter<'r, E> {
         }
     }
 
-    /// Reports directives that say nothing.
+    /// Reports directives that have no effect.
     pub fn passed(&mut self, passed: &[Position]) {
         for at in passed {
             if let Some(row) = self.program.row(at.row) {
