@@ -32,7 +32,7 @@ const HELLO: &[u32] = &[
     0x0000_0073, // ecall                # exit
 ];
 
-// Nothing is told of a run besides the console's bytes and how it ended.
+// Nothing is printed of a run besides the console's bytes and how it ended.
 const UNTOLD: Telling<'static> = Telling {
     report: false,
     json: None,
@@ -88,7 +88,7 @@ fn files_of(alloc: Global, bytes: Vec<u8>, text: &[u8]) -> Result<Files, AllocEr
     })
 }
 
-// Gives an image or a program's file these bytes at these places.
+// Gives an image or a program's file these bytes at these offsets.
 fn change(bytes: &mut Vec<u8>, changes: &[(usize, u8)]) {
     for (at, byte) in changes {
         if let Some(old) = bytes.get_mut(*at) {
@@ -124,7 +124,7 @@ fn expect_text(rt: &impl Abort, name: Name<'_>, text: &[u8], wanted: &str) {
     expect_that(rt, name, text_of(text), text == wanted.as_bytes());
 }
 
-// What was told has to be what is wanted.
+// What was printed has to be what is wanted.
 fn expect_told(rt: &impl Abort, name: Name<'_>, told: Told<'_>, wanted: Wanted<'_>) {
     let (out, err, ended) = told;
     let (stdout, stderr, status) = wanted;
@@ -173,7 +173,7 @@ fn hello(alloc: Global) -> Result<Vec<u8>, AllocError> {
     Ok(bytes)
 }
 
-// What is run: the program that says `hi`, so many zeros, or these words.
+// What is run: the program that says `hi`, this many zeros, or these words.
 #[derive(Clone, Copy)]
 enum Program {
     Hello,
@@ -507,7 +507,7 @@ const KEEPS_A_BYTE: &[u32] = &[
     0xfff5_0513, // addi a0, a0, -1
     0x0000_0073, // ecall                # sbrk(-4097)
     0x0010_0513, // addi a0, zero, 1
-    0x0000_0073, // ecall                # sbrk(1) answers 12287
+    0x0000_0073, // ecall                # sbrk(1) returns 12287
     0x0005_c603, // lbu  a2, 0(a1)
     0x00c5_0533, // add  a0, a0, a2
     0x0020_0893, // addi a7, zero, 2
@@ -523,7 +523,7 @@ const KEPT: &[Run] = &[(
     0,
 )];
 
-// Scripts with a line that says nothing.
+// Scripts with a line that can't be read.
 const BAD_SCRIPTS: &[Run] = &[
     (256, Program::Hello, "step", "", "script line 1\n", 1),
     (256, Program::Hello, "step ", "", "script line 1\n", 1),

@@ -5,7 +5,7 @@ use std::process::Abort;
 
 pub const CHECK: Job<'static> = Job::Check(Check { image: "image" });
 
-// Files with this manifest, and so many bytes of a file of the host.
+// Files with this manifest, and `length` bytes of a file of the host.
 pub fn with_files(rt: &(impl Abort + AllocGlobal), manifest: &str, length: usize) -> Files {
     let bytes = vec![in rt.alloc(); 0u8; length].expect(rt, "memory");
     files_of(rt.alloc(), bytes, manifest.as_bytes()).expect(rt, "memory")
@@ -195,7 +195,7 @@ const LINES: &[Image] = &[
     ),
 ];
 
-// Files of 20 blocks for an image of 32, of which two are too many: what is told comes at the second at the latest,
+// Files of 20 blocks for an image of 32, of which two are too many: the fault is reported at the second at the latest,
 // after all files were read.
 const BEHIND_A_FAULT: &[Image] = &[
     (
@@ -252,7 +252,7 @@ static SUBJECTS: [(&str, &[Image]); 5] = [
 // What the check says of an image, or why none is made.
 type Outcome = Result<&'static str, &'static str>;
 
-// What is told where an image is made.
+// What is printed where an image is made.
 fn told_of(outcome: Outcome) -> Wanted<'static> {
     match outcome {
         Ok(_) => DONE,
@@ -304,7 +304,7 @@ fn expect_images(rt: &(impl Abort + AllocGlobal)) {
     expect_subjects(rt, &SUBJECTS);
 }
 
-// A file of 64 MiB and an image of 131072 blocks take long, so they stand apart.
+// A file of 64 MiB and an image of 131072 blocks take long, so they are in a test of their own.
 #[test]
 fn knows_the_numbers_of_an_image(rt: HostRuntime) {
     expect_subjects(&rt, &NUMBERS);
@@ -344,7 +344,7 @@ impl Host for Long {
 }
 
 // Images that are longer than the longest: the count of blocks in the super block, the first byte of its magic number,
-// the length of the image if it has an end, and what is told.
+// the length of the image if it has an end, and what is printed.
 type TooLong = ([u8; 4], u8, Option<u64>, &'static str);
 
 static LONG: [TooLong; 7] = [
@@ -405,7 +405,7 @@ impl Host for Full {
     }
 }
 
-// The bytes of an image that are changed and how long it is then at most, and what the check tells.
+// The bytes of an image that are changed and how long it is then at most, and what the check prints.
 type Changed = (&'static [(usize, u8)], usize, &'static str);
 
 // A file and a directory (inodes 2 and 3).

@@ -89,7 +89,7 @@ pub fn desk_of(alloc: Global, image: &[u8], typed: &[u8], room: usize) -> Result
     })
 }
 
-// Does a job at a desk, with a standard output of so much room.
+// Does a job at a desk, with a standard output that takes `room` bytes.
 fn expect_at(
     rt: &(impl Abort + AllocGlobal),
     name: Name<'_>,
@@ -190,7 +190,7 @@ static SHOWN: Session = (
 );
 
 // The words of a session that fails, how long its record may get, how many bytes standard output takes, and what is
-// told.
+// printed.
 struct Refused {
     image: &'static str,
     frames: u32,

@@ -8,7 +8,7 @@ fn migrate<'a>(old: &'a str, new: &'a str) -> Job<'a> {
     Job::Migrate(Migrate { old, new })
 }
 
-// Files of which `host` is the image of 32 blocks and 16 inodes that a manifest makes with a file of so many bytes,
+// Files of which `host` is the image of 32 blocks and 16 inodes that a manifest makes with a file of `length` bytes,
 // some of the image's bytes changed: where no file has more than 11 blocks the formats differ in the magic number
 // alone.
 fn with_old(
@@ -42,7 +42,7 @@ static OLD: [Old; 7] = [
         &[(1024, 0x40)],
         Ok("ok 3 inodes 2 blocks\n"),
     ),
-    // A file gets a twelfth block, whose number stands where the large format has that of the index block.
+    // A file gets a twelfth block, whose number is where the large format has that of the index block.
     (
         "file /a host",
         11264,

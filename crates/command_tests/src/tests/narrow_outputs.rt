@@ -1,4 +1,4 @@
-//! Standard outputs that take so many bytes, or can't be flushed.
+//! Standard outputs that take only some bytes, or can't be flushed.
 use crate::tests::images::{CHECK, mkfs, with_files};
 use crate::tests::listing::ls;
 use crate::tests::openings::{get, put, with_letters};
@@ -14,8 +14,8 @@ use std::io;
 use std::io::Write;
 use std::process::Abort;
 
-// Takes one byte at a time, so many of them, and then fails; a flush may fail too. It notes how many bytes it has at
-// each that doesn't.
+// Takes `room` bytes, one at a time, and then fails; a flush may fail too. It notes how many bytes it has at each that
+// doesn't.
 #[derive(Drop)]
 pub struct Narrow {
     pub taken: Vec<u8>,
@@ -44,7 +44,7 @@ impl Write for Narrow {
     }
 }
 
-// An output that takes so many bytes.
+// An output that takes `room` bytes.
 pub fn output_of(alloc: Global, room: usize, flushes: bool) -> Narrow {
     Narrow {
         taken: Vec::new(alloc),
@@ -172,7 +172,7 @@ const WRITES: &[u32] = &[
     0x0000_0593, // addi a1, zero, 0
     0x0010_0613, // addi a2, zero, 1
     0x0100_0893, // addi a7, zero, 16
-    0x0000_0073, // ecall                # write answers 1
+    0x0000_0073, // ecall                # write returns 1
     0xffdf_f06f, // jal  zero, -4
 ];
 

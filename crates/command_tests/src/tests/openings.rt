@@ -22,7 +22,7 @@ pub fn put(path: &str) -> Job<'_> {
     })
 }
 
-// So many letters.
+// A text of `length` letters.
 fn letters(rt: &(impl Abort + AllocGlobal), length: usize) -> String {
     let mut text = String::new(rt.alloc());
     for index in 0..length {
@@ -32,7 +32,7 @@ fn letters(rt: &(impl Abort + AllocGlobal), length: usize) -> String {
     text
 }
 
-// Files with an image of 32 blocks and 16 inodes whose file has 300 bytes; then the host's file has so many letters.
+// Files with an image of 32 blocks and 16 inodes whose file has 300 bytes; then the host's file has `length` letters.
 pub fn with_letters(rt: &(impl Abort + AllocGlobal), length: usize) -> Files {
     let old = vec![in rt.alloc(); b'o'; 300].expect(rt, "memory");
     let mut files = files_of(rt.alloc(), old, MANIFEST.as_bytes()).expect(rt, "memory");

@@ -73,8 +73,7 @@ fn play_of(tlb: bool, script: Option<&'static str>) -> Job<'static> {
 }
 
 // The first process waits for its children. Its child reads lines, and for each its own child prints `$ `, as it does
-// itself, and
-// `x` two ticks later.
+// itself, and `x` two ticks later.
 const PROMPTS: &str = "\
     la a0, console\n li a1, 2\n li a7, 15\n ecall\n li a7, 1\n ecall\n beq a0, zero, shell\n\
     waits: li a0, 0\n li a7, 3\n ecall\n j waits\n\
@@ -270,7 +269,7 @@ fn expect_played(rt: &(impl Abort + AllocGlobal), image: &[u8], row: &Row, tlb: 
     );
 }
 
-// Plays that can't be read, and what is told of them: the line, the word, and why.
+// Plays that can't be read, and what is printed of them: the line, the word, and why.
 static FAULTS: [(&str, &str); 33] = [
     ("untill", "play:1: untill: no such command\n"),
     (
@@ -366,7 +365,7 @@ fn expect_all_played(rt: &(impl Abort + AllocGlobal), image: &[u8], rows: &[Row]
     }
 }
 
-// The steps of a machine on which nobody is ready are counted, and not looked at one by one.
+// The steps of a machine on which nobody is ready are counted, and not watched one by one.
 fn expect_idle_counted(rt: &(impl Abort + AllocGlobal), image: &[u8]) {
     let text = "until idle 17\nevery 500000000 tick\nuntil \"x\" 1000000000";
     let mut stage = stage_of(rt.alloc(), image, text).expect(rt, "memory");

@@ -172,7 +172,7 @@ static ROWS: [Row; 4] = [
 // A line is at last blanks.
 const BLANKS: &str = "                                           ";
 
-// The lines, each of 43 columns, behind which the cursor goes back.
+// The lines, each of 43 columns, after which the cursor goes back.
 fn lines_of(rt: &(impl Abort + AllocGlobal), rows: &[&str]) -> String {
     let mut lines = String::new(rt.alloc());
     for line in rows {

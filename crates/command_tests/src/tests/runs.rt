@@ -23,8 +23,8 @@ pub fn put_text(rt: &(impl Abort + AllocGlobal), files: &mut Files, text: &[u8])
     files.text = text.to_vec(rt.alloc()).expect(rt, "memory");
 }
 
-// Files with an image of a manifest, of so many blocks, whose host's file is the program of an assembly text, or so
-// many bytes of its beginning.
+// Files with an image of a manifest, of `size` blocks, whose host's file is the program of an assembly text, or its
+// first `length` bytes.
 fn with_part(
     rt: &(impl Abort + AllocGlobal),
     text: &str,
@@ -225,7 +225,7 @@ const REMEMBERS: &str = "\
     la a1, byte\n li a2, 1\n li a7, 16\n ecall\n li a0, 0\n li a7, 2\n ecall\n\
     name: .ascii \"f\\0\"\nbyte: .ascii \"*\"\nplace: .zero 1\n";
 
-// Whether a run saves the image in its own place, its frames, and how it ended.
+// The file in which a run saves the image, if it does, its frames, and how it ended.
 type Saving = (Option<&'static str>, u32, &'static str);
 
 // Runs on one image after another of the same script, and what is in use at the end.
@@ -304,8 +304,8 @@ fn expect_saved(rt: &(impl Abort + AllocGlobal), saved: &Saved, tlb: bool) {
     expect(rt, name, &mut files, &CHECK, (saved.used, "", 0));
 }
 
-// A run or a play of a script, of which the access of a number fails, if that isn't 0, and the registers of process 7
-// may be told.
+// A run or a play of a script, of which the access with a number fails, if that isn't 0, and the registers of process 7
+// may be printed.
 #[derive(Clone, Copy)]
 struct Doing {
     plays: bool,
@@ -381,7 +381,7 @@ static ENDINGS: [Done; 10] = [
         UNSAVED,
         1,
     ),
-    // So nothing is told of an image that can't be written.
+    // So nothing is printed of an image that can't be written.
     (
         "a play that waited in vain isn't saved",
         usize::MAX,
@@ -395,7 +395,7 @@ static ENDINGS: [Done; 10] = [
         "script:1: not reached in 3 steps\n",
         1,
     ),
-    // A run on which somebody looks on fails and is saved as any other.
+    // A run that is watched fails and is saved as any other.
     (
         "a run that is watched fails",
         usize::MAX,
@@ -418,7 +418,7 @@ static ENDINGS: [Done; 10] = [
         "pid 7: no process\nhalt 1 InitEnded 0\ncannot write none\n",
         1,
     ),
-    // Frames are counted first, and an image that is refused may be told before an access fails.
+    // Frames are counted first, and an image that is refused may be reported before an access fails.
     (
         "the frames are told before the disk fails",
         usize::MAX,
@@ -474,14 +474,14 @@ fn expect_ending(rt: &(impl Abort + AllocGlobal), row: &Done) {
     expect(rt, name, &mut files, &job_of(doing), ("", stderr, status));
 }
 
-// What a run tells of whose disk one access fails, and its status: the later the access, the further it comes.
+// What a run prints when one access of its disk fails, and its status: the later the access, the further it comes.
 static FAILURES: [(&str, u8); 3] = [
     ("fault 3 Device\n", 1),
     ("halt 2 Device\n", 1),
     ("running\n", 0),
 ];
 
-// Which of these was told.
+// Which of these was printed.
 fn failure_in(told: &[u8], ended: u8) -> Option<usize> {
     FAILURES.iter().position(|(line, status)| line.as_bytes() == told && *status == ended)
 }
@@ -489,7 +489,7 @@ fn failure_in(told: &[u8], ended: u8) -> Option<usize> {
 // More accesses than a run makes.
 const ACCESSES: u64 = 200;
 
-// Which of the failures a job tells.
+// Which of the failures a job prints.
 fn failure_told(rt: &(impl Abort + AllocGlobal), files: &mut Files, job: &Job<'_>) -> usize {
     let mut out = Vec::new(rt.alloc());
     let mut err = Vec::new(rt.alloc());
@@ -595,7 +595,7 @@ const BOOT: Boot = Boot {
 const CUT_OFF: &str =
     "explain: /init is no program: fault 5 Short: the file ends before its headers or segments do: is it cut off?\n";
 
-// A name, the boot, what is told of it, and what is said of a line that tells of no program.
+// A name, the boot, what is printed of it, and what is said of a line that says that there is no program.
 type Unbooted = (&'static str, Boot, &'static str, &'static str);
 
 static UNBOOTED: [Unbooted; 17] = [

@@ -1,4 +1,4 @@
-//! What is told of a run besides how it ended, and what is said of a line that tells a fault.
+//! What is printed of a run besides how it ended, and what is said of a line that reports a fault.
 use crate::tests::images::mkfs;
 use crate::tests::openings::{get, with_letters};
 use crate::tests::runs::put_text;
@@ -13,7 +13,7 @@ use std::process::Abort;
 // A program that runs for ever.
 const LOOP: &[u32] = &[0x0000_006f];
 
-// A run of a program of which something is told besides its end: the registers and the memory of the process of a
+// A run of a program of which something is printed besides its end: the registers and the memory of the process with a
 // number, if that isn't 0; and parts of the file `image`.
 struct Row {
     name: &'static str,
@@ -131,7 +131,7 @@ pub fn expect_parts(rt: &impl Abort, name: Name<'_>, text: &[u8], parts: &[&str]
     }
 }
 
-// What is said of the last line that a job told.
+// What is said of the last line that a job printed.
 pub fn expect_explained<H: Host>(
     rt: &(impl Abort + AllocGlobal),
     host: &mut H,
@@ -144,7 +144,7 @@ pub fn expect_explained<H: Host>(
     expect_text(rt, ("explained", line), err.as_slice(), wanted);
 }
 
-// The text of a manifest or a script, a line that was told, and what is said of it.
+// The text of a manifest or a script, a line that was printed, and what is said of it.
 type Said = (&'static str, &'static str, &'static str);
 
 const MANIFESTS: &[Said] = &[

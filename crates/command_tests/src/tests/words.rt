@@ -108,8 +108,8 @@ static REFUSALS: [(&str, ErrorKind); 26] = [
     ("xv6 live a b", ErrorKind::UnknownArgument),
 ];
 
-// What is told of a line that is no job: the line, how many bytes standard output takes, how standard error begins, and
-// the status.
+// What is printed of a line that is no job: the line, how many bytes standard output takes, how standard error begins,
+// and the status.
 type Told = (&'static str, usize, &'static str, u8);
 
 static TOLD: [Told; 5] = [
@@ -203,7 +203,7 @@ fn expect_help(rt: &(impl Abort + AllocGlobal), line: &str, named: &[&str]) {
     expect_parts(rt, ("a help", line), out.taken.as_slice(), named);
 }
 
-// Words, and whether they ask that more is said of what is wrong.
+// Words, and whether they ask for more on what is wrong.
 static EXPLAINS: [(&str, bool); 4] = [
     ("xv6 check --explain a", true),
     ("xv6 check a", false),
