@@ -71,7 +71,7 @@ both : {X A B : Type 0} (f : X → A) (g : X → B) (o : Option X) (a : A) (b : 
 both f g None a b name rows = absurd (cc)
 both f g (Some x) a b name rows = cc
 
--- a job of the command that was entered, whose name and rows were told one by one
+-- a job of the command that was entered, whose name and rows are given one by one
 pub is-job : (r : Option Job) (m : ArgMatches) (name : Text) (rows : List Row) → subcommand_name_of m ≡ Some name
     → option_map (λ (p : Text × List Row). p.1) (subcommand_rows_of m) ≡ Some rows
     → IfSome r (IsJob (Some (name, rows)))
@@ -82,7 +82,7 @@ is-job r m name rows named told job =
     (λ b. rows_of (found_of (out-SubCommand (box_value b)).matches)) (out-ArgMatches m).subcommand name rows named
     told)) job
 
--- what is told of the rows of a command is told of the job
+-- what holds of the rows of a command holds of the job
 pub told : {name : Text} {rows : List Row} {Is : List Row → Type 0} → Is rows
     → (all : List Row) × (◌≡◌ {A = Option (Text × List Row)} (Some (name, rows)) (Some (name, all))) × Is all
 told {rows = rows} is = (rows, refl, is)

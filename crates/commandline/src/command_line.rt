@@ -17,10 +17,10 @@ use clap::{Arg, ArgAction, ArgMatches, Command, Error, value_parser};
 use std::alloc::{AllocError, Global};
 use std::num::NonZeroU64;
 
-/// What `--version` prints behind the name: the list of changes tells what each version brought.
+/// What `--version` prints after the name; the change log says what each version brought.
 const VERSION: &str = "1.0.0";
 
-// An argument that is given by its place.
+// A positional argument.
 fn placed<'a>(alloc: Global, word: &Word<'a>) -> Arg<'a>
     ensures rule { rule_of result ≡ last_rule word.now.name.now }
     ensures local { result.global ≡ false }
@@ -202,7 +202,7 @@ fn flag_found<'a>(found: &ArgMatches<'a>, name: &str) -> bool
     }
 }
 
-// What the words ask to be told of a run.
+// What the words ask to be reported of a run.
 fn telling<'a>(found: &ArgMatches<'a>) -> Option<Telling<'a>>
     ensures { IfSome result (IsTelling (rows_of (found_of found.now))) }
 {
@@ -647,7 +647,7 @@ pub fn job<'a>(alloc: Global, words: &'a [&'a str]) -> Result<Job<'a>, Error>
     job_read(&mut command, words)
 }
 
-/// Whether the words ask that more is said of what is wrong, in a line behind the usual one.
+/// Whether the words ask for more on what is wrong, in a line after the usual one.
 pub fn explains(words: &[&str]) -> bool {
     let Some((_program, words)) = words.split_first() else {
         return false;

@@ -35,20 +35,20 @@ pub enum Job<'a> {
     Dump(Dump<'a>),
 }
 
-/// What is told of a run besides the console's bytes and how it ended.
+/// What is reported of a run besides the console's bytes and how it ended.
 #[derive(Clone, Copy, PartialEq, Eq)]
 pub struct Telling<'a> {
-    /// Whether it is told why the machine stopped, each fault, and what each process is.
+    /// Whether a report is printed: why the machine stopped, each fault, and what each process is.
     pub report: bool,
     /// The name of the file to which the same is written as JSON, where it is.
     pub json: Option<&'a str>,
-    /// The pid of the process whose registers are told, where any are.
+    /// The pid of the process whose registers are printed, where any are.
     pub registers: Option<NonZeroU64>,
-    /// The pid of the process whose pages are told, where any are.
+    /// The pid of the process whose pages are printed, where any are.
     pub memory: Option<NonZeroU64>,
     /// Whether the status to exit with is that of process 1.
     pub status: bool,
-    /// Whether it is told on a terminal how many steps are done.
+    /// Whether a terminal shows how many steps are done.
     pub progress: bool,
 }
 
@@ -59,7 +59,7 @@ pub struct Flat<'a> {
     pub frames: u32,
     /// Whether translations go through a lookaside buffer.
     pub tlb: bool,
-    /// What is told of it.
+    /// What is reported of it.
     pub telling: Telling<'a>,
     /// The name of the program's file.
     pub file: &'a str,
@@ -78,7 +78,7 @@ pub struct Run<'a> {
     pub fail: Option<NonZeroU64>,
     /// The name of the file to which the saved image is written, where it is to be saved.
     pub save: Option<&'a str>,
-    /// What is told of it.
+    /// What is reported of it.
     pub telling: Telling<'a>,
     /// The name of the image's file.
     pub image: &'a str,
@@ -102,9 +102,9 @@ pub struct Part<'a> {
     pub pid: Option<NonZeroU64>,
     /// The names of the only calls with commas between them, where there are any.
     pub calls: Option<&'a str>,
-    /// The number of the first event, counted from 1; where none is told, the first of all.
+    /// The number of the first event, counted from 1; where there is none, the first of all.
     pub from: Option<NonZeroU64>,
-    /// The number of the last event; where none is told, the last of all.
+    /// The number of the last event; where there is none, the last of all.
     pub to: Option<NonZeroU64>,
 }
 
@@ -237,7 +237,7 @@ pub struct As<'a> {
     pub out: Option<&'a str>,
     /// Whether the text in the language of `asm` is printed, and no file written.
     pub expand: bool,
-    /// Whether directives are named that say nothing.
+    /// Whether directives that have no effect are reported.
     pub verbose: bool,
 }
 
@@ -255,13 +255,13 @@ pub struct Dump<'a> {
 pub struct Live<'a> {
     /// How many frames the memory has.
     pub frames: u32,
-    /// How many steps there are between two ticks while a process is ready, where that is told.
+    /// How many steps there are between two ticks while a process is ready, where the words say.
     pub quantum: Option<NonZeroU64>,
     /// The name of the file to which the script of the session is written, where one is.
     pub script: Option<&'a str>,
     /// The name of the file to which the saved image is written, where it is to be saved.
     pub save: Option<&'a str>,
-    /// Whether standard input is a terminal, which tells by a read of nothing that no key came for a while.
+    /// Whether standard input is a terminal, on which a read of nothing means that no key came for a while.
     pub terminal: bool,
     /// The name of the image's file.
     pub image: &'a str,
