@@ -12,7 +12,7 @@ use std::alloc::Global;
 use std::fmt;
 use std::io::Write;
 
-// What is told of an image that is accepted.
+// What is printed of an image that is accepted.
 #[derive(Clone, Copy)]
 struct Accepted(Summary);
 
@@ -23,7 +23,7 @@ impl fmt::Display for Accepted {
     }
 }
 
-// Makes an image; nothing is told of one that is made.
+// Makes an image; nothing is printed of one that is made.
 fn perform_mkfs<H: Host, E: Write>(
     alloc: Global,
     words: Mkfs<'_>,
@@ -36,7 +36,7 @@ fn perform_mkfs<H: Host, E: Write>(
     }
 }
 
-// Tells what an image uses, or what was wrong.
+// Prints what an image uses, or what was wrong.
 fn perform_telling<W: Write, E: Write>(
     found: Result<Summary, Failure<'_>>,
     stdout: &mut W,
@@ -48,7 +48,7 @@ fn perform_telling<W: Write, E: Write>(
     }
 }
 
-// Tells what was wrong, if anything was.
+// Prints what was wrong, if anything was.
 fn perform_quietly<E: Write>(done: Result<(), Failure<'_>>, stderr: &mut E) -> u8 {
     match done {
         Ok(()) => 0,
@@ -65,7 +65,7 @@ fn perform_reporting<E: Write>(done: Result<bool, Failure<'_>>, stderr: &mut E) 
     }
 }
 
-// The terminal on which a job tells that it goes on, where it does: of a trace, where its text isn't on standard error.
+// The terminal on which a job shows how far it is, where it does: of a trace, where its text isn't on standard error.
 fn screen_of<H: Host>(job: &Job<'_>, host: &H) -> Option<H::Screen> {
     let is_told = match *job {
         Job::Flat(words) => words.telling.progress,
@@ -114,7 +114,7 @@ fn perform_on<H: Host, S: Screen, W: Write, E: Write>(
 
 /// Does the job, with the host's files, and returns the status to exit with: 0 where it was done. Nothing is read or
 /// written if an output is another file that the words name.
-/// The console's bytes and what is found or listed go to `stdout`, and all else that is told to `stderr`.
+/// The console's bytes and what is found or listed go to `stdout`, and all else that is printed to `stderr`.
 pub fn perform<H: Host, W: Write, E: Write>(
     alloc: Global,
     job: &Job<'_>,

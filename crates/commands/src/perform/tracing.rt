@@ -1,4 +1,4 @@
-//! Runs of which it is shown what each process does.
+//! Runs that show what each process does.
 
 use blockdev::MemDisk;
 use commandline::{Run, Trace};
@@ -53,7 +53,7 @@ impl<'a> Sheet<'a> {
         done
     }
 
-    // Puts bytes behind the others.
+    // Puts bytes after the others.
     fn put<H: Host>(&mut self, host: &mut H, bytes: &[u8]) -> Result<(), Failure<'a>> {
         if self.waiting.extend_from_slice(bytes).is_err() {
             return Err(Failure::NoMemory);
@@ -185,7 +185,7 @@ fn wanted_of<'a>(words: &Trace<'a>) -> Result<Wanted, Failure<'a>> {
     })
 }
 
-// Why a trace isn't whole: what its files tell, or else that there was no memory.
+// Why a trace isn't whole: the failure of its files, or else that there was no memory.
 fn whole<'a>(
     traced: Result<(), Trouble>,
     written: Result<(), Failure<'a>>,
@@ -259,7 +259,7 @@ struct Traced<'a> {
     teller: Teller,
 }
 
-// Gives a machine the events of a source while a tracer, a teller and a gauge look on.
+// Gives a machine the events of a source, which a tracer, a teller and a gauge watch.
 fn run_traced<'a, Z: Source, T: Watch + Drop, S: Screen, W: Write>(
     alloc: Global,
     run: Run<'a>,
