@@ -12,12 +12,12 @@ pub trait Record {
     /// The events that are recorded; `None` where they are not known, as after one that was lost.
     ghost kept: { Self → Option (List Event) };
 
-    /// Records so many steps after the others.
+    /// Records `count` steps after the others.
     fn steps(&mut self, count: u32)
         requires { count ≤ MOST }
         ensures { Records (kept self.old) (kept self.new) (replicate count Step) };
 
-    /// Records so many ticks after the others.
+    /// Records `count` ticks after the others.
     fn ticks(&mut self, count: u32)
         requires { count ≤ MOST }
         ensures { Records (kept self.old) (kept self.new) (replicate count Tick) };

@@ -11,9 +11,9 @@ pub const MOST_KEYS: usize = 64;
 /// Events of one kind, one after the other.
 #[derive(Drop)]
 pub enum Row {
-    /// So many steps.
+    /// This many steps.
     Steps(u32),
-    /// So many timer interrupts.
+    /// This many timer interrupts.
     Ticks(u32),
     /// Typed keys.
     Keys(ArrayVec<u8, MOST_KEYS>),
