@@ -20,7 +20,7 @@ pub struct Assembler<'a> {
     pub output: Output,
     /// The ways from each `%pcrel_hi`, by its address.
     pub relatives: HashMap<i64, i64>,
-    /// Where directives are that say nothing here.
+    /// Where directives are that have no effect here.
     pub passed: Vec<Position>,
     pub is_last: bool,
     /// The statement's position in the texts, and its address.
@@ -79,7 +79,7 @@ impl<'a> Assembler<'a> {
         self.value_where(operand, true)
     }
 
-    /// The number that an operand is, which lies from the one to the other.
+    /// The number that an operand is, from `low` to `high`.
     pub(crate) fn number(&self, operand: &Operand, low: i64, high: i64) -> Result<i64, Stop> {
         let value = self.value(operand)?;
         if let Base::Section(_, _) = value.base {

@@ -1,4 +1,4 @@
-//! A text without its comments: blanks are in their place, so lines and columns stay.
+//! A text without its comments: blanks replace them, so lines and columns stay.
 
 use std::alloc::{AllocError, Global};
 

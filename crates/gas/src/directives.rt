@@ -30,7 +30,7 @@ pub enum Directive {
     Common,
     /// .globl name
     Export,
-    /// What says nothing here.
+    /// What has no effect here.
     Passed,
 }
 
@@ -249,7 +249,7 @@ impl<'a> Assembler<'a> {
         self.output.go_to(section);
     }
 
-    // .section name, and flags that say nothing here
+    // .section name, and flags that have no effect here
     fn section(&mut self, call: &Call<'_, 'a>) -> Result<(), Stop> {
         let [operand, ..] = call.operands else {
             return Err(call.misused(SECTION));
@@ -335,7 +335,7 @@ impl<'a> Assembler<'a> {
         Ok(())
     }
 
-    // A directive that says nothing here.
+    // A directive that has no effect here.
     fn pass(&mut self, call: &Call<'_, 'a>) -> Result<(), Stop> {
         if self.is_last {
             self.passed.push(Position {

@@ -28,7 +28,7 @@ pub struct Scope<'s, 'a> {
     pub is_last: bool,
     /// Whether names have to be defined above the statement.
     pub is_early: bool,
-    /// The place of the statement.
+    /// The statement's address.
     pub here: Value,
 }
 
@@ -147,7 +147,7 @@ impl Stacks {
         Ok(())
     }
 
-    // Applies the operators on top that bind at least so tightly.
+    // Applies the operators on top that bind at least as tightly as `level`.
     fn settle(&mut self, level: u8) -> Result<(), Stop> {
         for _ in 0..self.pending.len() {
             if self.top_level() < level {

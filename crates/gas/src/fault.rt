@@ -51,7 +51,7 @@ pub enum Wrong {
     Later,
     /// A name that is defined here first.
     Twice(Position),
-    /// A number that doesn't lie from the one to the other.
+    /// A number that doesn't lie within these bounds.
     Range(i64, i64),
     /// A number that is no power of two.
     Power,

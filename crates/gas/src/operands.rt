@@ -27,7 +27,7 @@ impl Call<'_, '_> {
     }
 }
 
-/// A place in memory: a number, or a part of an address, after which a register counts.
+/// An address in memory: an offset, which is a number or a part of an address, from a base register.
 #[derive(Clone, Copy)]
 pub struct Memory<'a> {
     pub offset: Operand<'a>,

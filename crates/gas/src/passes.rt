@@ -15,7 +15,7 @@ pub struct Expanded {
     pub text: String,
     /// The row of each line, where it is of one.
     pub rows: Vec<Option<usize>>,
-    /// Where directives are that say nothing here.
+    /// Where directives are that have no effect here.
     pub passed: Vec<Position>,
 }
 
@@ -33,7 +33,7 @@ fn is_misaligned(fault: &Fault) -> bool {
     matches!(fault.wrong, Wrong::Align)
 }
 
-// Notes a fault; of instructions that all lie at odd places after another, the first.
+// Notes a fault; of misaligned instructions in a row, only the first.
 fn note(faults: &mut Vec<Fault>, fault: Fault) -> Result<(), AllocError> {
     let is_same = match faults.last() {
         Some(last) => is_misaligned(last) && is_misaligned(&fault),

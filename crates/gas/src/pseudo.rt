@@ -138,7 +138,7 @@ impl<'a> Assembler<'a> {
         self.put_upper(call.word, rd, number)
     }
 
-    // op r, place: at a register, or by the register of an address.
+    // op r, operand: at an offset from a base register, or at a label, whose address is made in register `by`.
     fn transfer(
         &mut self,
         op: &str,
