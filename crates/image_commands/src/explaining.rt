@@ -1,4 +1,4 @@
-//! What --explain adds: a line that says more of the one by which a job told that it is not done.
+//! What --explain adds: a line that says more than the one by which a job reported that it is not done.
 
 mod images;
 
@@ -53,7 +53,8 @@ fn is_of_play(kind: Kind, line: &str) -> bool {
     matches!(kind, Kind::Script) && PLAY.contains(&word) && !SCRIPT.contains(&word)
 }
 
-// What is wrong with a line that says nothing: the character that doesn't fit, if one doesn't, or what its fault means.
+// What is wrong with a line that can't be read: the character that doesn't fit, if one doesn't, or what its fault
+// means.
 fn wrong(alloc: Global, kind: Kind, line: &str, told: &str) -> Result<String, AllocError> {
     let oddity = match kind {
         Kind::Script | Kind::Manifest => oddity_of(line),
@@ -67,7 +68,7 @@ fn wrong(alloc: Global, kind: Kind, line: &str, told: &str) -> Result<String, Al
     }
 }
 
-// What is said after a line that says nothing: the word that was meant, if one is near, or what is wrong.
+// What is said after a line that can't be read: the word that was meant, if one is near, or what is wrong.
 fn hint(alloc: Global, kind: Kind, line: &str, told: &str) -> Result<String, AllocError> {
     match nearest(alloc, first_word(line), kind.words())? {
         Some(meant) => format!(in alloc; ": did you mean {meant}?"),
@@ -75,7 +76,7 @@ fn hint(alloc: Global, kind: Kind, line: &str, told: &str) -> Result<String, All
     }
 }
 
-// A line of a text that says nothing: its file, its number, its words, and a hint.
+// A line of a text that can't be read: its file, its number, its words, and a hint.
 fn odd_line(
     alloc: Global,
     told: Told<'_>,
@@ -93,7 +94,7 @@ fn odd_line(
     Ok(Some(format!(in alloc; "{name}:{number}: {line}{more}")?))
 }
 
-// A line of an assembly text that is none: what `as` makes of it, or a hint.
+// A line of an assembly text that can't be read: what `as` makes of it, or a hint.
 fn odd_assembly<H: Host>(
     alloc: Global,
     told: Told<'_>,
@@ -139,7 +140,7 @@ fn of_manifest(alloc: Global, told: Told<'_>) -> Result<Option<String>, AllocErr
     Ok(Some(format!(in alloc; "{name}:{number}: {path} {why}")?))
 }
 
-// The text that a job was told to read, which its faults are of.
+// The text that a job reads and that its faults are about.
 fn name_of<'a>(job: &Job<'a>) -> Option<&'a str> {
     match *job {
         Job::Flat(words) => Some(words.script),
@@ -255,8 +256,8 @@ fn say<E: Write>(stderr: &mut E, told: &str) {
     let _ = writeln!(stderr, "explain: {told}");
 }
 
-/// Says more of the last line that a job told: what the system says of a file, which line of a text or which name on an
-/// image is meant, or what the line means.
+/// Says more on the last line that a job printed: what the system says of a file, which line of a text or which name on
+/// an image is meant, or what the line means.
 pub fn explain<H: Host, E: Write>(
     alloc: Global,
     job: &Job<'_>,

@@ -16,7 +16,7 @@ fn disk_at<H: Host>(host: &mut H, image: &str) -> Option<MemDisk> {
     disk_of(read_image(host, image).ok()?).ok()
 }
 
-// That so many frames don't suffice for a program.
+// That `frames` frames don't suffice for a program.
 fn too_few(alloc: Global, frames: u32, program: &str) -> Result<Option<String>, AllocError> {
     Ok(Some(format!(in alloc; "{frames} frames don't suffice for {program}")?))
 }
@@ -28,7 +28,7 @@ fn no_program(alloc: Global, fault: Failure<'_>) -> Result<Option<String>, Alloc
     Ok(Some(format!(in alloc; "{INIT} is no program: {line}: {means}")?))
 }
 
-// Why a program isn't executed: what is wrong with its file, or else that so many frames don't suffice.
+// Why a program isn't executed: what is wrong with its file, or else that `frames` frames don't suffice.
 fn of_program(alloc: Global, file: &[u8], frames: u32) -> Result<Option<String>, AllocError> {
     match segments(alloc, file) {
         Ok(_) => too_few(alloc, frames, INIT),
