@@ -1,4 +1,4 @@
--- The names that the lemmas of this crate import from elsewhere, passed on from one place. Declares nothing.
+-- Passes on the names that the lemmas of this crate import from elsewhere. Declares nothing.
 pub use Rattle.std.proofs.Common.{◌+◌, ◌++◌, ◌-◌, ◌<◌, [], ap, append-nil, append_assoc, arith, drop, Err, false}
 pub use Rattle.std.proofs.Common.{get_or, inl, inr, le_trans, length, length-append, List, map, None, Ok, Option, refl}
 pub use Rattle.std.proofs.Common.{replicate, Result, Some, subst, sym, take, take-append-drop, true, ℕ, ◌∙◌, ◌∷◌, ◌≡◌}

@@ -163,7 +163,7 @@ worked n (suc count) s busy within =
     let e = ap (λ (a : After). work (n - suc count) a.state) on in
     omega (arith, w, more, e)
 
--- after so many steps so many are left
+-- after `done` steps, those of the quantum that are left
 pub record IsWorking (most : ℕ) (first now : View) (done : ℕ) (before after : Option (List ℕ)) (failed fails : ℕ)
     : Type 0 where
   pub so_far : SoFar first now (replicate done Step) before after
@@ -182,7 +182,7 @@ working-begins most first at f up =
       later = omega arith;
     }
 
--- what a quantum answers
+-- what the steps of a quantum return
 pub record IsWorked (most : ℕ) (first new : View) (before after : Option (List ℕ)) (failed fails : ℕ) (count : ℕ)
     (r : Result (Unit {0}) Halt) : Type 0 where
   pub gives : RunGives first new (replicate count Step) before after (Rises failed fails) r
@@ -192,7 +192,7 @@ pub record IsWorked (most : ℕ) (first new : View) (before after : Option (List
 
 module _ {most : ℕ} {first now : View} {done : ℕ} {before mid : Option (List ℕ)} {f0 f1 : ℕ}
     (h : IsWorking most first now done before mid f0 f1) where
-  -- it ends as so many steps are done
+  -- it ends once `done` steps are all
   ends-at : work (most - done) now.state ≡ 0 → IsWorked most first now before mid f0 f1 done (Ok tt)
   ends-at none =
       let w : done ≡ work most first.state = (let l = h.left in omega (arith, none, l)) in
@@ -255,7 +255,7 @@ module _ {most : ℕ} {first now : View} {done : ℕ} {before mid : Option (List
         later = le_trans h.later le;
       }
 
--- so many steps are a beginning of those that there are
+-- `count` steps are a beginning of `n`, and all of them where the machine goes on
 follows-steps : (count n : ℕ) (r : Result (Unit {0}) Halt) → count ≤ n → OnOk r (count ≡ n)
     → Follows (replicate n Step) (replicate count Step) r
 follows-steps count n (Ok u) within all = ap (λ k. replicate k Step) all
@@ -294,7 +294,7 @@ given-all es old new before after f0 f1 k0 k1 r runs later kept =
 
 module _ (quantum : ℕ) (g : Given) {first now : View} {before mid : Option (List ℕ)} {f0 f1 : ℕ}
     {k0 k1 : Option (List Event)} where
-  -- the quantum behind an answer
+  -- what the keyboard gave, and the quantum after it
   pub given-moved : {new : View} {after : Option (List ℕ)} {f2 : ℕ} {k2 : Option (List Event)} {u : Unit {0}}
       {r : Result (Unit {0}) Halt} → is_end g ≡ false
       → IsGiven (answered (mood_of first.state) g) first now before mid f0 f1 k0 k1 (Ok u)
@@ -346,7 +346,7 @@ rises-where : {E P : Type 0} (r : Result (Unit {0}) E) → OnErr r P → is_err 
 rises-where (Ok u) cause fails = absurd (cc)
 rises-where (Err e) cause fails = cause
 
--- a session goes on after so many answers
+-- a session goes on after it was given something `moves` times
 pub record Sits (quantum : ℕ) (gives later : Option (List Given)) (old new : View) (before after : Option (List ℕ))
     (failed fails : ℕ) (kept keeps : Option (List Event)) (moves : ℕ) : Type 0 where
   pub gave : List Given

@@ -21,7 +21,7 @@ abbrev pub script_events : List Command → List Event
 script_events [] = []
 script_events (c ∷ commands) = events_of c ++ script_events commands
 
--- what events are answered with whose bytes go to a writer
+-- what events return when their bytes go to a writer
 abbrev pub RunWrites : {W : Type 0} → (W → Option (List ℕ)) → View → View → Writer W → Writer W → List Event
     → Result (Unit {0}) Halt → Type 0
 RunWrites contents old new from to events result =

@@ -19,7 +19,7 @@ use Rattle.unixmodel.specs.State.{State}
 
 -- ---- a quantum
 
--- how many steps it takes until no process runs and none is ready, and at most so many
+-- how many steps it takes until no process runs and none is ready, and at most `most`
 unfoldable pub work : ℕ → State → ℕ
 work zero s = 0
 work (suc most) s = if is_idle s then 0 else 1 + work most (next s Step).state
@@ -53,7 +53,7 @@ abbrev pub is_end : Given → Bool
 is_end End = true
 is_end _ = false
 
--- the quantum that follows, but none behind the end
+-- the quantum that follows, but none after the end
 abbrev pub steps_after : ℕ → Given → State → List Event
 steps_after quantum given s = if is_end given then [] else steps quantum s
 

@@ -22,11 +22,11 @@ const LINE_END: u8 = 0x0a;
 /// How many steps and ticks there are at most between two times at which the console's bytes are written out.
 const BATCH: u32 = 65536;
 
-/// So many steps at least go in one loop: to enter it costs as much as a few steps.
+/// The fewest steps that are done in one loop: entering it costs as much as a few steps.
 const LOOP: u32 = 8;
 
-// One event, at which somebody looks on. It is inlined, so that the loop of a run has the machine's step in it: what
-// calls it else gives an event that is known.
+// Gives one event, which is watched. It is inlined, so that the loop of a run has the machine's step in it; its other
+// callers give an event that is known.
 #[inline(always)]
 fn step<D: BlockDev, T: Translate, V: Watch, W: Out>(
     machine: &mut Machine<D, T>,
@@ -44,7 +44,7 @@ fn step<D: BlockDev, T: Translate, V: Watch, W: Out>(
     ended
 }
 
-// The same event, so many times, with nothing between: each by itself.
+// Gives the same event `times` times, with nothing between, each by itself.
 fn each<D: BlockDev, T: Translate, V: Watch, W: Out>(
     machine: &mut Machine<D, T>,
     event: Event,
@@ -65,9 +65,9 @@ fn each<D: BlockDev, T: Translate, V: Watch, W: Out>(
     Ok(())
 }
 
-/// The first of that many steps, as many as are done in one go where calls, faults and turns are seen: instructions up
+/// Takes at most `most` steps, as many as are done in one go where calls, faults and turns are watched: instructions up
 /// to a call or a fault and that, or a turn, or all where no process runs and none is ready. Returns how many they
-/// were, with the one at which the machine halted.
+/// were, with the result of the last, at which the machine may have halted.
 pub fn advance_seen<D: BlockDev, T: Translate, V: Watch, W: Out>(
     machine: &mut Machine<D, T>,
     most: u32,
@@ -95,7 +95,7 @@ pub fn advance_seen<D: BlockDev, T: Translate, V: Watch, W: Out>(
     (passed + 1, step(machine, Event::Step, watch, out))
 }
 
-// That many steps, of which calls, faults and turns are seen.
+// Takes `times` steps, whose calls, faults and turns are watched.
 fn steps_seen<D: BlockDev, T: Translate, V: Watch, W: Out>(
     machine: &mut Machine<D, T>,
     times: u32,
@@ -116,7 +116,7 @@ fn steps_seen<D: BlockDev, T: Translate, V: Watch, W: Out>(
     Ok(())
 }
 
-// The same event, so many times, with nothing between: steps that nobody looks at go in one loop.
+// Gives the same event `times` times, with nothing between; steps that nobody watches go in one loop.
 fn batch<D: BlockDev, T: Translate, V: Watch, W: Out>(
     machine: &mut Machine<D, T>,
     event: Event,
@@ -136,8 +136,8 @@ fn batch<D: BlockDev, T: Translate, V: Watch, W: Out>(
     }
 }
 
-// Before more of an event that came so often: the console's bytes are written out, if there would be more events than a
-// batch has since that was done. What the writer doesn't take it keeps back, and is asked again.
+// Writes out the console's bytes before `more` events, if more than a batch would have come since that was last done.
+// What the writer doesn't take, it keeps back and is asked for again.
 fn write_out<V: Watch, W: Write>(
     event: Event,
     made: u32,
@@ -157,7 +157,7 @@ fn write_out<V: Watch, W: Write>(
     }
 }
 
-// The same event, so many times.
+// Gives the same event `times` times.
 fn repeat<D: BlockDev, T: Translate, V: Watch, W: Write>(
     machine: &mut Machine<D, T>,
     event: Event,
@@ -181,7 +181,7 @@ fn repeat<D: BlockDev, T: Translate, V: Watch, W: Write>(
     Ok(())
 }
 
-// Keys, one after the other.
+// Gives keys, one after the other.
 pub(crate) fn press<D: BlockDev, T: Translate, V: Watch, W: Out>(
     machine: &mut Machine<D, T>,
     keys: &[u8],
@@ -198,7 +198,7 @@ pub(crate) fn press<D: BlockDev, T: Translate, V: Watch, W: Out>(
     Ok(())
 }
 
-// The events of one command.
+// Gives the events of one command.
 fn obey<D: BlockDev, T: Translate, V: Watch, W: Write>(
     machine: &mut Machine<D, T>,
     command: &Command<'_>,
@@ -221,8 +221,8 @@ fn obey<D: BlockDev, T: Translate, V: Watch, W: Write>(
     }
 }
 
-/// The events of a script, up to the first at which the machine halts: the machine's run over them
-/// all, without a list of them. The console's bytes are written out as the machine runs.
+/// Gives the events of a script, up to the first at which the machine halts: the machine's run over them all, without a
+/// list of them. The console's bytes are written out as the machine runs.
 pub fn play<D: BlockDev, T: Translate, V: Watch, W: Write>(
     machine: &mut Machine<D, T>,
     script: &[Command<'_>],

@@ -57,8 +57,8 @@ fn ticks(mood: Mood, given: &Given) -> bool
     }
 }
 
-// Steps until no process runs and none is ready, so many at most; and how many they were, with the one at which the
-// machine halted.
+// Takes at most `most` steps, until no process runs and none is ready. Returns how many they were, with the one at
+// which the machine halted.
 fn work<D: BlockDev, T: Translate, W: Out>(
     machine: &mut Machine<D, T>,
     most: u32,
@@ -82,7 +82,7 @@ fn work<D: BlockDev, T: Translate, W: Out>(
     (done, Ok(()))
 }
 
-// A quantum of steps, which is recorded.
+// Takes a quantum of steps, and records it.
 fn advance<D: BlockDev, T: Translate, S: Terminal, W: Out>(
     machine: &mut Machine<D, T>,
     quantum: u32,
@@ -100,7 +100,7 @@ fn advance<D: BlockDev, T: Translate, S: Terminal, W: Out>(
     ended
 }
 
-// Keys, which are recorded.
+// Gives keys, and records them.
 fn type_keys<D: BlockDev, T: Translate, S: Terminal, W: Out>(
     machine: &mut Machine<D, T>,
     keys: &[u8],
@@ -117,7 +117,7 @@ fn type_keys<D: BlockDev, T: Translate, S: Terminal, W: Out>(
     press(machine, keys, &mut Nobody, out)
 }
 
-// A tick where it is due, which is recorded.
+// Gives a tick where it is due, and records it.
 fn tick_if<D: BlockDev, T: Translate, S: Terminal, W: Out>(
     machine: &mut Machine<D, T>,
     is_due: bool,
@@ -138,7 +138,7 @@ fn tick_if<D: BlockDev, T: Translate, S: Terminal, W: Out>(
     }
 }
 
-// What comes at once of what the keyboard gave.
+// Gives the keys and the tick that come at once of what the keyboard gave.
 fn answer<D: BlockDev, T: Translate, S: Terminal, W: Out>(
     machine: &mut Machine<D, T>,
     mood: Mood,
@@ -156,7 +156,7 @@ fn answer<D: BlockDev, T: Translate, S: Terminal, W: Out>(
     tick_if(machine, ticks(mood, given), terminal, out)
 }
 
-// Shows the processes where that is wished.
+// Shows the processes if the keyboard asked for it.
 fn show_if<D: BlockDev, T: Translate, S: Terminal>(
     machine: &Machine<D, T>,
     given: &Given,
@@ -170,7 +170,7 @@ fn show_if<D: BlockDev, T: Translate, S: Terminal>(
     }
 }
 
-// What comes of what the keyboard gave, which isn't its end: the events, and the quantum behind them.
+// Gives the events of what the keyboard gave, which isn't its end, and the quantum after them.
 fn go_on<D: BlockDev, T: Translate, S: Terminal, W: Out>(
     machine: &mut Machine<D, T>,
     quantum: u32,

@@ -1,4 +1,4 @@
-//! What a session has before it: a keyboard, and a record of what the machine is given.
+//! What a session is played with: a keyboard, and a record of what the machine is given.
 ghost use Rattle.std.specs.Prelude.{◌≡◌, ◌++◌, ◌∷◌, List, Option, option_map};
 
 use arrayvec::ArrayVec;
@@ -36,7 +36,7 @@ pub enum Mood {
 /// Events of one kind that a machine was given, one after the other.
 #[derive(Clone, Copy)]
 pub enum Move<'a> {
-    /// So many steps.
+    /// This many steps.
     Steps(u32),
     /// Typed keys.
     Keys(&'a [u8]),
@@ -56,18 +56,18 @@ pub trait Terminal {
     /// The events that are recorded, where they are known.
     ghost kept: { Self → Option (List Event) };
 
-    /// What was typed since the keyboard was last asked. It may wait for that, but for a busy machine only a short
-    /// time.
+    /// What was typed since the keyboard was last asked. It may wait for that, but only a short time while the machine
+    /// is busy.
     fn ask(&mut self, mood: Mood) -> Given
         ensures gives { gives self.old ≡ option_map (λ rest. result ∷ rest) (gives self.new) }
         ensures kept { kept self.new ≡ kept self.old };
 
-    /// Records these events behind the others.
+    /// Records these events after the others.
     fn note(&mut self, moved: Move<'_>)
         ensures kept { kept self.new ≡ option_map (λ events. events ++ events_moved moved.entry) (kept self.old) }
         ensures gives { gives self.new ≡ gives self.old };
 
-    /// Shows the processes of the machine, as was wished at the keyboard.
+    /// Shows the processes of the machine, as the keyboard asked for.
     fn show<D: BlockDev, T: Translate>(&mut self, machine: &Machine<D, T>)
         ensures kept { kept self.new ≡ kept self.old }
         ensures gives { gives self.new ≡ gives self.old };

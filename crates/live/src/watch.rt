@@ -1,11 +1,11 @@
-//! What looks on while a machine is given events.
+//! Watchers of a machine that is given events.
 
 use blockdev::BlockDev;
 use machine::{Halt, Machine};
 use sv39::Translate;
 use unixmodel::event::Event;
 
-/// Which steps one who looks on wants to see, from the fewest on. Ticks and keys are seen in any case.
+/// Which steps a watcher wants to see, from the fewest to all. It sees ticks and keys in any case.
 #[derive(Clone, Copy, PartialEq, Eq, PartialOrd, Ord, Debug)]
 pub enum Detail {
     /// None of them.
