@@ -14,7 +14,7 @@ use Rattle.unixmodel.specs.declared.event.Event.TheVariants.{Step}
 use Rattle.unixmodel.specs.Failures.{Rises}
 use Rattle.unixmodel.specs.Next.{next}
 
--- an exit by `?` answers the halt that it was told
+-- an exit by `?` returns the halt that it was given
 pub lost : {X : Type 0} (r : Result X Halt) {why : Halt} → IsErrAnd r (λ halt. halt ≡ why) → r ≡ Err why
 lost (Ok x) told = absurd told
 lost (Err halt) told = ap Err told
@@ -40,13 +40,13 @@ module _ {old new : View} {before after : Option (List ℕ)} {f0 f1 : ℕ} {k0 k
         later = later;
       }
 
-  -- so many steps
+  -- `count` steps
   pub played-steps : (count : ℕ) → RunGives old new (replicate count Step) before after (Rises f0 f1) r → f0 ≤ f1
       → k1 ≡ option_map (λ es. es ++ replicate count Step) k0 → IsPlayed old new before after f0 f1 k0 k1 r
   played-steps count gives later kept =
       record { events = replicate count Step; records = kept; runs = gives; later = later }
 
-  -- it is answered with this
+  -- the run returns this
   pub played-as : (x : Result (Unit {0}) Halt) → r ≡ x → IsPlayed old new before after f0 f1 k0 k1 r
       → IsPlayed old new before after f0 f1 k0 k1 x
   played-as x is h = subst (λ (y : Result (Unit {0}) Halt). IsPlayed old new before after f0 f1 k0 k1 y) is h

@@ -23,7 +23,7 @@ const LINE_END: u8 = b'\n';
 /// How many steps there are at most between two times at which the console's bytes are written out.
 const BATCH: u32 = 65536;
 
-/// So many steps at least go in one loop: to enter it costs as much as a few steps.
+/// The fewest steps that are done in one loop: entering it costs as much as a few steps.
 const LOOP: u32 = 8;
 
 /// What comes of an act without events.
@@ -41,11 +41,11 @@ pub trait Record {
     /// The events that are recorded, where they are known.
     ghost kept: { Self → Option (List Event) };
 
-    /// Records this event behind the others.
+    /// Records this event after the others.
     fn note(&mut self, event: Event)
         ensures { kept self.new ≡ option_map (λ events. events ++ event ∷ []) (kept self.old) };
 
-    /// Records so many steps behind the others.
+    /// Records `count` steps after the others.
     fn note_steps(&mut self, count: u32)
         ensures { kept self.new ≡ option_map (λ events. events ++ replicate count Step) (kept self.old) };
 }
@@ -59,7 +59,7 @@ pub struct Unreached {
     pub steps: u32,
 }
 
-// The steps of a wait: how many they were, and whether that has come for which they were done.
+// The steps of a wait: how many there were, and whether what was waited for has come.
 #[derive(Clone, Copy)]
 struct Walked {
     made: u32,
@@ -73,7 +73,7 @@ struct Done {
     unreached: Option<Unreached>,
 }
 
-// One event, which is recorded.
+// Gives one event, and records it.
 fn give<D: BlockDev, T: Translate, R: Record, V: Watch, W: Write>(
     machine: &mut Machine<D, T>,
     event: Event,
@@ -91,7 +91,7 @@ fn give<D: BlockDev, T: Translate, R: Record, V: Watch, W: Write>(
     ended
 }
 
-// The same event, so many times.
+// Gives the same event `times` times.
 fn repeat<D: BlockDev, T: Translate, R: Record, V: Watch, W: Write>(
     machine: &mut Machine<D, T>,
     event: Event,
@@ -109,7 +109,7 @@ fn repeat<D: BlockDev, T: Translate, R: Record, V: Watch, W: Write>(
     Ok(())
 }
 
-// Keys, one after the other.
+// Gives keys, one after the other.
 fn press<D: BlockDev, T: Translate, R: Record, V: Watch, W: Write>(
     machine: &mut Machine<D, T>,
     keys: &[u8],
@@ -126,7 +126,7 @@ fn press<D: BlockDev, T: Translate, R: Record, V: Watch, W: Write>(
     Ok(())
 }
 
-// A tick where it is due.
+// Gives a tick where it is due.
 fn tick_if<D: BlockDev, T: Translate, R: Record, V: Watch, W: Write>(
     machine: &mut Machine<D, T>,
     is_due: bool,
@@ -144,8 +144,8 @@ fn tick_if<D: BlockDev, T: Translate, R: Record, V: Watch, W: Write>(
     }
 }
 
-// The first of that many steps after none of which the clock strikes, and at none of which anybody looks on: as many as
-// are done in one go, and all where no process runs and none is ready; and how many they were.
+// Takes at most `most` steps, after none of which the clock strikes, and none of which is watched: as many as are done
+// in one go, and all where no process runs and none is ready. Returns how many.
 fn stride<D: BlockDev, T: Translate, R: Record, W: Write>(
     machine: &mut Machine<D, T>,
     most: u32,
@@ -169,7 +169,7 @@ fn stride<D: BlockDev, T: Translate, R: Record, W: Write>(
     Ok(most)
 }
 
-// The same where somebody looks on at calls, faults and turns.
+// The same where calls, faults and turns are watched.
 fn stride_seen<D: BlockDev, T: Translate, R: Record, V: Watch, W: Write>(
     machine: &mut Machine<D, T>,
     most: u32,
@@ -189,7 +189,7 @@ fn stride_seen<D: BlockDev, T: Translate, R: Record, V: Watch, W: Write>(
     Ok(made)
 }
 
-// A step. Where somebody looks on at calls, faults and turns alone, an instruction isn't looked at.
+// Takes a step. Where calls, faults and turns alone are watched, an instruction isn't.
 fn pass_step<D: BlockDev, T: Translate, R: Record, V: Watch, W: Write>(
     machine: &mut Machine<D, T>,
     keeper: &mut R,
@@ -206,7 +206,7 @@ fn pass_step<D: BlockDev, T: Translate, R: Record, V: Watch, W: Write>(
     give(machine, Event::Step, keeper, watch, out)
 }
 
-// A step, and a tick where the clock strikes.
+// Takes a step, and gives a tick where the clock strikes.
 fn pace<D: BlockDev, T: Translate, R: Record, V: Watch, W: Write>(
     machine: &mut Machine<D, T>,
     clock: &mut Clock,
@@ -221,8 +221,8 @@ fn pace<D: BlockDev, T: Translate, R: Record, V: Watch, W: Write>(
     tick_if(machine, clock.strikes(), keeper, watch, out)
 }
 
-// The first of that many steps, with a tick where the clock strikes after it; and how many they were. Where nobody
-// looks on at each step they are as many as are done in one go.
+// Takes at most `most` steps, with a tick where the clock strikes after one, and returns how many. Unless each step is
+// watched, they are as many as are done in one go.
 fn go_on<D: BlockDev, T: Translate, R: Record, V: Watch, W: Write>(
     machine: &mut Machine<D, T>,
     most: u32,
@@ -253,7 +253,7 @@ fn go_on<D: BlockDev, T: Translate, R: Record, V: Watch, W: Write>(
     Ok(made)
 }
 
-// Whether that has come for which a play waits. A halt ends the play before.
+// Whether what a play waits for has come. A halt ends the play before.
 fn is_reached<D: BlockDev, T: Translate, W: Write>(
     machine: &Machine<D, T>,
     goal: Option<&Goal>,
@@ -279,7 +279,7 @@ fn write_out_at<V: Watch, W: Write>(made: u32, watch: &mut V, out: &mut Tail<W>)
     }
 }
 
-// Whether a wait is over: that has come, or nothing can come, since nobody is ready and no clock runs.
+// Whether a wait is over: what it waits for has come, or nothing can come, since nobody is ready and no clock runs.
 fn is_over<D: BlockDev, T: Translate>(
     machine: &Machine<D, T>,
     goal: Option<&Goal>,
@@ -289,8 +289,8 @@ fn is_over<D: BlockDev, T: Translate>(
     is_there || (goal.is_some() && clock.is_off() && machine.is_idle())
 }
 
-// Steps until that has come for which a play waits, or until nothing can come, n at most; how many they were, and
-// whether it has come.
+// Takes at most `most` steps, until what a play waits for has come, or until nothing can come. Returns how many there
+// were, and whether it has come.
 fn walk<D: BlockDev, T: Translate, R: Record, V: Watch, W: Write>(
     machine: &mut Machine<D, T>,
     goal: Option<&Goal>,
@@ -323,7 +323,7 @@ fn walk<D: BlockDev, T: Translate, R: Record, V: Watch, W: Write>(
     })
 }
 
-// The events of a command.
+// Gives the events of a command.
 fn command<D: BlockDev, T: Translate, R: Record, V: Watch, W: Write>(
     machine: &mut Machine<D, T>,
     command: &Command<'_>,
@@ -367,7 +367,7 @@ fn waited(line: usize, walked: Walked) -> Done {
     }
 }
 
-// The events of an act, and what came of it.
+// Gives the events of an act, and returns what came of it.
 fn act<D: BlockDev, T: Translate, R: Record, V: Watch, W: Write>(
     machine: &mut Machine<D, T>,
     act: &Act<'_>,
@@ -407,8 +407,8 @@ fn note(place: &mut Place, gave: bool) {
     }
 }
 
-/// The events of a play, up to the first at which the machine halts, or to a line that waits in vain, which is told
-/// then: the machine's run over them all, and just these are recorded. The console's bytes are written out as the
+/// Performs the events of a play, up to the first at which the machine halts, or to a line that waits in vain, which is
+/// returned then: they are the machine's run, and just these are recorded. The console's bytes are written out as the
 /// machine runs.
 pub fn perform<D: BlockDev, T: Translate, R: Record, V: Watch, W: Write>(
     machine: &mut Machine<D, T>,
