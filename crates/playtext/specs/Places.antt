@@ -26,7 +26,7 @@ marked p (Some r) = record p { rounds = with_round (outer p.rounds) (record r { 
 abbrev pub noted : Place → Place
 noted p = marked p (innermost p.rounds)
 
--- a round begins, and so many follow
+-- a round begins, and `left` more follow
 abbrev pub begun : Place → ℕ → ℕ → Place
 begun p start left = record p { rounds = with_round p.rounds (record { start = start; left = left; gave = false }) }
 

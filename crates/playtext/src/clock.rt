@@ -16,9 +16,8 @@ pub enum Clock {
     Off,
     /// After each n steps; `left` of them are left to the next.
     Every { steps: u32, left: u32 },
-    /// After one of n steps on average. Each step makes of the state `state * 6364136223846793005 +
-    /// 1442695040888963407`, of
-    /// which 64 bits are kept, and the clock strikes where `steps` divides its upper 32 bits.
+    /// After one of n steps on average. Each step makes `state * 6364136223846793005 + 1442695040888963407` of the
+    /// state, of which 64 bits are kept, and the clock strikes where `steps` divides its upper 32 bits.
     Random { state: u64, steps: u32 },
 }
 
@@ -62,7 +61,7 @@ impl Clock {
         matches!(self, Clock::Off)
     }
 
-    /// At how many steps from here on it surely doesn't strike.
+    /// How many steps from here on there are at which it surely doesn't strike.
     pub fn quiet_steps(&self) -> u32
         ensures { result ≡ quiet self.now }
     {

@@ -3,14 +3,14 @@
 use std::alloc::{AllocError, AllocFailed};
 use std::fmt;
 
-/// Why a line says nothing.
+/// Why a line can't be read.
 #[derive(Clone, Copy)]
 pub enum Why {
     /// The first word names no command.
     Command,
     /// More has to follow.
     Short,
-    /// Nothing may stand here.
+    /// Nothing may follow here.
     More,
     /// It is no number of events.
     Number,
@@ -22,11 +22,11 @@ pub enum Why {
     Open,
     /// The quoted text has no bytes, or too many.
     Length,
-    /// A backslash stands before something else than `n`, `t`, `\`, `"` or `x` and two digits.
+    /// A backslash is followed by something other than `n`, `t`, `\`, `"` or `x` and two digits.
     Escape,
-    /// Another word has to stand here.
+    /// Another word has to be here.
     Wanted(&'static str),
-    /// Too many repeats stand in one another.
+    /// Too many repeats are nested.
     Depth,
     /// The repeat has no end.
     Unended,
@@ -37,7 +37,7 @@ pub enum Why {
 }
 
 impl Why {
-    // What is told of it. Of a word that is wanted that is what stands behind the word.
+    // What is printed of it; of a wanted word, what is printed after the word.
     fn text(self) -> &'static str {
         match self {
             Why::Command => "no such command",
@@ -94,7 +94,7 @@ impl<T: Drop> From<AllocFailed<T>> for Fault<'_> {
     }
 }
 
-/// The first line that says nothing.
+/// The first line that can't be read.
 #[derive(Clone, Copy)]
 pub struct PlayFault<'a> {
     /// Its number, from 1 on.

@@ -4,7 +4,7 @@ use crate::clock::Clock;
 use arrayvec::ArrayVec;
 use scripts::Command;
 
-/// How many repeats may stand in one another.
+/// How deep repeats may be nested.
 pub const MOST_DEPTH: usize = 8;
 
 /// The most bytes of a text that a play waits for.
@@ -28,13 +28,13 @@ pub enum Goal {
 /// What a line of a play says.
 #[derive(Drop)]
 pub enum Deed<'a> {
-    /// A command of a script. Behind each of its steps the clock may strike.
+    /// A command of a script. After each of its steps the clock may strike.
     Give(Command<'a>),
-    /// Steps until the goal is reached, so many at most.
+    /// Steps until the goal is reached, at most this many.
     Until(Goal, u32),
     /// From here on this clock gives ticks.
     Set(Clock),
-    /// What stands up to the end is done so many times. The deed of number `end` is the first behind it.
+    /// Repeats the deeds up to the end `times` times. The deed of number `end` is the first after it.
     Repeat { times: u32, end: usize },
     /// The end of what is repeated.
     End,

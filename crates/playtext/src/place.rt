@@ -49,8 +49,8 @@ impl Place {
         }
     }
 
-    // A round of the last repeat ends. One without an event leaves all as it was, so that no later one would give any:
-    // it is the last.
+    // A round of the innermost repeat ends. One without an event left all as it was, so that no later one would give
+    // any: it is the last.
     fn close(&mut self)
         ensures { self.new ≡ closed self.old }
     {

@@ -55,14 +55,14 @@ fn random<'a>(name: &'a [u8], words: &mut Words<'a>) -> Result<Deed<'a>, Fault<'
     Ok(Deed::Set(Clock::random(seed, steps)))
 }
 
-// The begin of what is repeated. Its end isn't known yet.
+// The beginning of what is repeated. Its end isn't known yet.
 fn repeat<'a>(name: &'a [u8], words: &mut Words<'a>) -> Result<Deed<'a>, Fault<'a>> {
     let times = words.number(name)?;
     words.exactly(name, "{")?;
     Ok(Deed::Repeat { times, end: 0 })
 }
 
-// The command of a script that a line says that has this first word.
+// The command of a script on a line with this first word.
 fn command<'a>(
     alloc: Global,
     name: &'a [u8],
@@ -76,7 +76,7 @@ fn command<'a>(
     }
 }
 
-// What a line says that has this first word.
+// What a line with this first word says.
 fn deed<'a>(alloc: Global, name: &'a [u8], words: &mut Words<'a>) -> Result<Deed<'a>, Fault<'a>> {
     match name {
         b"until" => until(name, words),
@@ -120,7 +120,7 @@ impl<'a> Draft<'a> {
         }
     }
 
-    // The repeat that was begun last ends here.
+    // The innermost repeat ends here.
     fn close(&mut self, name: &'a [u8]) -> Result<(), Fault<'a>> {
         let Some(at) = self.open.pop() else {
             return Err(Fault::at(name, Why::NoRepeat));
@@ -165,13 +165,13 @@ impl<'a> Draft<'a> {
     }
 }
 
-// The lines of a text, each ended by LF but for the last.
+// The lines of a text, each ended by LF except the last.
 fn split_lines<'a>(alloc: Global, text: &'a [u8]) -> Result<Vec<&'a [u8]>, AllocError> {
     text.split(|byte| *byte == b'\n').collect(alloc)
 }
 
-/// The play that a text says. Lines end at LF, blanks may stand before the first word, and a word that begins with `#`
-/// begins a comment. The first line that says nothing is told.
+/// The play that a text says. Lines end at LF, blanks may come before the first word, and a word that begins with `#`
+/// begins a comment. A fault is that of the first line that can't be read.
 pub fn parse<'a>(alloc: Global, text: &'a [u8]) -> Result<Play<'a>, PlayFault<'a>> {
     let mut draft = Draft {
         acts: Vec::new(alloc),

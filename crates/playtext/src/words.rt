@@ -5,19 +5,18 @@ use crate::grammar::MOST_SHOWN;
 use arrayvec::ArrayVec;
 use scripts::{count, pair_value};
 
-/// The words of a line that are not read yet. Blanks stand between words, and a word that begins with `#` begins a
-/// comment.
+/// The words of a line that are not read yet. Blanks separate words, and a word that begins with `#` begins a comment.
 #[derive(Clone, Copy)]
 pub struct Words<'a> {
     rest: &'a [u8],
 }
 
-// Whether a byte stands between words.
+// Whether a byte separates words.
 fn is_blank(byte: u8) -> bool {
     byte == b' ' || byte == b'\t'
 }
 
-// The bytes behind so many.
+// The bytes after the first `count`.
 fn behind(bytes: &[u8], count: usize) -> &[u8] {
     bytes.get(count..).unwrap_or(&[])
 }
@@ -69,7 +68,7 @@ impl<'a> Words<'a> {
         bytes.get(..length)
     }
 
-    /// The next word, which `after` has to have behind it.
+    /// The next word, which has to follow `after`.
     pub fn want(&mut self, after: &'a [u8]) -> Result<&'a [u8], Fault<'a>> {
         match self.next_word() {
             Some(word) => Ok(word),
@@ -77,7 +76,7 @@ impl<'a> Words<'a> {
         }
     }
 
-    /// The number that `after` has to have behind it.
+    /// The number that has to follow `after`.
     pub fn number(&mut self, after: &'a [u8]) -> Result<u32, Fault<'a>> {
         let word = self.want(after)?;
         match count(word) {
@@ -86,7 +85,7 @@ impl<'a> Words<'a> {
         }
     }
 
-    /// The word `wanted`, which `after` has to have behind it.
+    /// The word `wanted`, which has to follow `after`.
     pub fn exactly(&mut self, after: &'a [u8], wanted: &'static str) -> Result<(), Fault<'a>> {
         let word = self.want(after)?;
         if word == wanted.as_bytes() {
@@ -104,7 +103,7 @@ impl<'a> Words<'a> {
         }
     }
 
-    /// The bytes that are left behind one blank, whatever they are.
+    /// The bytes that are left after one blank, whatever they are.
     pub fn text(self) -> &'a [u8] {
         match self.rest.split_first() {
             Some((_blank, text)) => text,
