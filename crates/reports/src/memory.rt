@@ -84,7 +84,7 @@ impl<'a, D: BlockDev, T: Translate> MemoryReport<'a, D, T> {
         MemoryReport { who, machine }
     }
 
-    // The pages of which there are so many.
+    // Writes the first `count` pages.
     fn write_pages<W: fmt::Write>(&self, f: &mut fmt::Formatter<W>, count: u64) -> fmt::Result {
         let mut open = None;
         for page in 0..count {

@@ -18,7 +18,7 @@ pub struct Report<'a, D: BlockDev, T: Translate> {
     pub(crate) ended: Result<(), Halt>,
 }
 
-/// How many frames a process of so many bytes takes.
+/// How many frames a process of `size` bytes takes.
 pub(crate) fn frames_of(size: u64) -> u64 {
     let pages = size.div_ceil(4096);
     let root = if pages > 0 { 1 } else { 0 };
@@ -68,7 +68,7 @@ pub(crate) struct Waiting<'a, D: BlockDev, T: Translate> {
 }
 
 impl<D: BlockDev, T: Translate> Waiting<'_, D, T> {
-    // One who can end the wait.
+    // Writes a process that can end the wait.
     fn write_cause<W: fmt::Write>(&self, f: &mut fmt::Formatter<W>, pid: u32) -> fmt::Result {
         if pid == self.pid {
             f.write_str("it itself")
@@ -77,7 +77,7 @@ impl<D: BlockDev, T: Translate> Waiting<'_, D, T> {
         }
     }
 
-    // Those who can end the wait, with a word between them; how many they are.
+    // Writes the processes that can end the wait, with a word between them, and returns how many they are.
     fn write_causes<W: fmt::Write>(
         &self,
         f: &mut fmt::Formatter<W>,
@@ -97,13 +97,13 @@ impl<D: BlockDev, T: Translate> Waiting<'_, D, T> {
         Ok(count)
     }
 
-    // Those who hold the other end of a pipe.
+    // Writes that the processes hold the other end of a pipe.
     fn write_holders<W: fmt::Write>(&self, f: &mut fmt::Formatter<W>) -> fmt::Result {
         let count = self.write_causes(f, "and")?;
         f.write_str(if count > 1 { " hold" } else { " holds" })
     }
 
-    // The children that are waited for.
+    // Writes the children that are waited for.
     fn write_children<W: fmt::Write>(&self, f: &mut fmt::Formatter<W>) -> fmt::Result {
         f.write_str("waits for ")?;
         self.write_causes(f, "or")?;

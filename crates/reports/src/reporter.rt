@@ -77,13 +77,13 @@ impl fmt::Display for Counts {
     }
 }
 
-/// Looks on while a machine is given events: it counts them, and notes the faults that come, the processes that end and
+/// Watches a machine that is given events: it counts them, and notes the faults that come, the processes that end and
 /// the names of programs.
 #[derive(Drop)]
 pub struct Reporter {
     wanted: Wanted,
     counts: Counts,
-    // What the last event was answered with.
+    // What the last event returned.
     ended: Result<(), Halt>,
     // The process that ran last.
     running: u32,
@@ -169,7 +169,7 @@ fn answer<D: BlockDev, T: Translate>(machine: &Machine<D, T>, pid: u32) -> Optio
 }
 
 impl Reporter {
-    /// Looks on from the boot of a machine, whose first program has this name, for what is wanted.
+    /// Watches from the boot of a machine, whose first program has this name, for what is wanted.
     pub fn new(alloc: Global, first: &[u8], wanted: Wanted) -> Reporter {
         Reporter {
             wanted,
@@ -191,7 +191,7 @@ impl Reporter {
         }
     }
 
-    /// Whether it looks at calls, faults and turns. The pages of a process alone are looked at after the last event.
+    /// Whether it watches calls, faults and turns. For the pages of a process alone, it looks after the last event.
     pub fn sees_calls(&self) -> bool {
         let wanted = self.wanted;
         wanted.report || wanted.json || wanted.registers.is_some()
@@ -399,7 +399,7 @@ impl Reporter {
         };
     }
 
-    /// Looks at the machine after the event, which was answered so.
+    /// Looks at the machine after the event, which returned `ended`.
     pub fn after<D: BlockDev, T: Translate>(
         &mut self,
         machine: &Machine<D, T>,

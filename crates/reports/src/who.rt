@@ -38,7 +38,7 @@ impl Name {
         Name { bytes, length }
     }
 
-    /// The string that stands at an address of a process, if it is a path.
+    /// The string at an address of a process, if it is a path.
     pub(crate) fn at<D: BlockDev, T: Translate>(
         machine: &Machine<D, T>,
         pid: u32,
@@ -116,8 +116,8 @@ impl Programs {
         None
     }
 
-    // The place of a pid, else one that is free or whose process is gone: there are as many places as processes at a
-    // time.
+    // The index of a pid's entry, else of one that is free or whose process is gone: there are as many entries as there
+    // can be processes.
     fn place<D: BlockDev, T: Translate>(&self, machine: &Machine<D, T>, pid: u32) -> Option<usize> {
         let mut free = None;
         for (place, entry) in self.known.iter().enumerate() {
