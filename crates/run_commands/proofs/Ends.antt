@@ -172,7 +172,7 @@ module _ {D : Type 0} (identity : D → List ℕ) (count : D → ℕ) (fail : Op
       → IsUnbootedWith identity count fail disk image frames fault
   unbooted-failing image frames fault why = rw is (rw (← device, ← left) why)
 
--- what is told of a fault is told of the answer that passes it on
+-- what holds of a fault holds of the result that passes it on
 pub passed-on : {T : Type 0} (r : Result T BootFault) (fault : BootFault) (Why : BootFault → Type 0)
     → IsErrAnd r (λ f. f ≡ fault) → Why fault → IfErr r Why
 passed-on (Ok x) fault Why is why = tt

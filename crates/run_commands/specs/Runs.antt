@@ -82,7 +82,7 @@ pub record IsImageRun {D : Type 0} (content : D → List (List ℕ)) (identity :
   pub booted : IsBooted (image_of (content disk)) (identity disk) (count disk) frames first
   pub leaves : Leaves content identity count first events before after saves end left
 
--- what tells a disk of which one access fails from others, and its count of failures
+-- what identifies a disk of which one access fails, and its count of failures
 abbrev pub failing_identity : {D : Type 0} → (D → List ℕ) → Failing D → List ℕ
 failing_identity identity failing = identity failing.device
 
@@ -123,7 +123,7 @@ pub record IsFlatRun (program : List ℕ) (frames : ℕ) (events : List Event) (
   pub booted : start_flat program frames ≡ Some first.state
   pub ended : PlaysOut first last events before after end
 
--- ---- the same of what a run was told and has told, whose output has the bytes
+-- ---- the same of what a run is given and returns, whose output has the bytes
 
 abbrev pub RunLeaves : {D W : Type 0} → (D → List (List ℕ)) → (D → List ℕ) → (D → ℕ) → (W → Option (List ℕ)) → View
     → List Event → W → Bool → Ran D W → Type 0

@@ -293,7 +293,7 @@ pub fn read_both<'a, H: Host>(
     }
 }
 
-// A play that is read: it is done, and how it ended is told.
+// Performs a play that was read, and prints how it ended.
 fn perform_read<H: Host, S: Screen, W: Write, E: Write>(
     alloc: Global,
     words: &Play<'_>,
@@ -325,7 +325,7 @@ fn perform_read<H: Host, S: Screen, W: Write, E: Write>(
     }
 }
 
-/// The command `play`: boots a machine from an image, gives it the events of a play, and tells how that ended. The
+/// The command `play`: boots a machine from an image, gives it the events of a play, and prints how that ended. The
 /// script and the image that is left are written before. The play is read whole before the machine boots.
 pub fn perform<H: Host, S: Screen, W: Write, E: Write>(
     alloc: Global,

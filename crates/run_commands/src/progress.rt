@@ -1,4 +1,4 @@
-//! The line by which a long run tells on a terminal that it goes on.
+//! The line on a terminal that shows how far a long run is.
 
 use blockdev::BlockDev;
 use hosts::Screen;
@@ -10,16 +10,16 @@ use std::{fmt, io};
 use sv39::Translate;
 use unixmodel::event::Event;
 
-/// How many milliseconds a run takes before it tells anything.
+/// How many milliseconds a run takes before a line is shown.
 const FIRST: u64 = 1000;
 
-/// How many milliseconds there are at least between two times at which it tells.
+/// How many milliseconds there are at least between two lines.
 const REST: u64 = 250;
 
 /// How many columns the line takes.
 const WIDTH: usize = 43;
 
-/// The columns behind which a line is not shown, since it might not fit.
+/// The last column at which a line is shown: further right it might not fit.
 const LAST_COLUMN: usize = 80 - WIDTH;
 
 /// As many blanks, and as many steps back.
@@ -28,7 +28,7 @@ const BLANKS: &str = "                                           ";
 const BACK: &str =
     "\x08\x08\x08\x08\x08\x08\x08\x08\x08\x08\x08\x08\x08\x08\x08\x08\x08\x08\x08\x08\x08\x08\x08\x08\x08\x08\x08\x08\x08\x08\x08\x08\x08\x08\x08\x08\x08\x08\x08\x08\x08\x08\x08";
 
-// The line, behind which the cursor stands where it was.
+// The line, after which the cursor is where it was.
 #[derive(Clone, Copy)]
 struct Line {
     steps: u64,
@@ -45,7 +45,7 @@ impl fmt::Display for Line {
 // How far a run is, and what a terminal shows of it.
 #[derive(Clone, Copy)]
 struct State {
-    // The steps that are done, and those of them that were when a line was shown last, or nothing was told yet.
+    // How many steps are done, and how many were when a line was last shown, or at the start.
     steps: u64,
     told: u64,
     // When that was, and when the next line is due, in milliseconds.
@@ -57,7 +57,7 @@ struct State {
 }
 
 impl State {
-    // The line at this time. It tells the steps a second since the last one.
+    // The line at this time, with the steps a second since the last one.
     fn line(&self, now: u64) -> Line {
         let lasted = now.saturating_sub(self.told_at).max(1);
         let done = self.steps.saturating_sub(self.told);
@@ -67,7 +67,7 @@ impl State {
         }
     }
 
-    // From this time on, at which something is told, the next is due so many milliseconds later.
+    // Counts from this time on: the next line is due `rest` milliseconds later.
     fn rest(&mut self, now: u64, rest: u64) {
         self.told = self.steps;
         self.told_at = now;
@@ -75,7 +75,7 @@ impl State {
     }
 }
 
-/// Tells how far a run is, if there is a terminal.
+/// Shows how far a run is, if there is a terminal.
 #[derive(Drop)]
 pub struct Meter<S> {
     screen: Option<S>,
@@ -109,7 +109,7 @@ impl<S: Screen> Meter<S> {
         self.state.set(state);
     }
 
-    /// Shows how far the run is, where that is due; so many steps more are done than were counted.
+    /// Shows how far the run is, where that is due; `more` steps are done besides those that were counted.
     pub fn show(&self, more: u32) {
         let Some(screen) = &self.screen else {
             return;
@@ -181,7 +181,7 @@ impl fmt::Display for Blank {
     }
 }
 
-/// Looks on at a run, and has its meter show how far it is.
+/// Watches a run, and has its meter show how far it is.
 #[derive(Clone, Copy)]
 pub struct Gauge<'a, S> {
     pub meter: &'a Meter<S>,

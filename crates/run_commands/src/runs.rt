@@ -189,8 +189,8 @@ fn run_with<D: BlockDev, T: Translate, V: Watch, W: Write + Drop>(
     })
 }
 
-/// The translator of runs at whose calls or steps somebody looks on. It is a type of its own, so that the code of other
-/// runs is compiled without them; the output is the same over every translator.
+/// The translator of runs whose calls or steps are watched. It is a type of its own, so that the code of other runs is
+/// compiled without watchers; the output is the same over every translator.
 type Watched = Recent<Tlb<32>>;
 
 // How a flat run ended, or why there was none.
@@ -231,8 +231,8 @@ fn read_flat<'a, H: Host>(
     Ok((program, script))
 }
 
-/// The command `flat`, at whose batches of events somebody looks on. Its files are read in the order of the command
-/// line, and the script is parsed, before anything is booted.
+/// The command `flat`, whose batches of events are watched. Its files are read in the order of the command line, and
+/// the script is parsed, before anything is booted.
 pub fn flat<'a, H: Host, V: Watch, W: Write>(
     alloc: Global,
     words: Flat<'a>,
@@ -246,7 +246,7 @@ pub fn flat<'a, H: Host, V: Watch, W: Write>(
     flat_over(alloc, words, program, script, watch, stdout)
 }
 
-/// The same, at each of whose events somebody looks on.
+/// The same, each of whose events is watched.
 pub fn flat_watched<'a, H: Host, V: Watch, W: Write>(
     alloc: Global,
     words: Flat<'a>,
@@ -283,8 +283,7 @@ fn run_over<'a, V: Watch, W: Write>(
     }
 }
 
-/// A machine at each of whose events somebody looks on: how it ended, and the disk that is left where it was to be
-/// saved.
+/// A machine each of whose events is watched: how it ended, and the disk that is left where it was to be saved.
 pub fn run_watched_over<'a, V: Watch, W: Write>(
     alloc: Global,
     words: Run<'a>,
@@ -310,9 +309,8 @@ pub fn read_run<'a, H: Host>(
     Ok((image, bytes))
 }
 
-/// The command `run`, at whose batches of events somebody looks on: how it ended, and the disk that is left where it
-/// was to be saved.
-/// Its files are read in the order of the command line, and the script is parsed, before there is a disk.
+/// The command `run`, whose batches of events are watched: how it ended, and the disk that is left where it was to be
+/// saved. Its files are read in the order of the command line, and the script is parsed, before there is a disk.
 pub fn run<'a, H: Host, V: Watch, W: Write>(
     alloc: Global,
     words: Run<'a>,
@@ -326,7 +324,7 @@ pub fn run<'a, H: Host, V: Watch, W: Write>(
     run_over(alloc, words, disk, script.as_slice(), watch, stdout)
 }
 
-/// The same, at each of whose events somebody looks on.
+/// The same, each of whose events is watched.
 pub fn run_watched<'a, H: Host, V: Watch, W: Write>(
     alloc: Global,
     words: Run<'a>,

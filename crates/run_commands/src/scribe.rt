@@ -18,7 +18,7 @@ const MOST_KEYS: usize = 64;
 /// The most bytes of the script that wait to be written.
 const MOST_WAITING: usize = 4096;
 
-// Events of one kind that stand in one line.
+// Events of one kind that make one line.
 #[derive(Drop)]
 enum Line {
     Nothing,
@@ -41,7 +41,7 @@ impl Line {
         }
     }
 
-    // Takes an event more, where it fits into the line; and whether it did.
+    // Takes one more event, where it fits into the line, and returns whether it did.
     fn takes(&mut self, event: Event) -> bool {
         match (self, event) {
             (Line::Steps(count), Event::Step) | (Line::Ticks(count), Event::Tick)
@@ -54,7 +54,7 @@ impl Line {
         }
     }
 
-    // Takes so many steps, where they all fit into the line; and whether they did.
+    // Takes `more` steps, where they all fit into the line, and returns whether they did.
     fn takes_steps(&mut self, more: u32) -> bool {
         match self {
             Line::Steps(count) if more <= MOST_EVENTS.saturating_sub(*count) => {

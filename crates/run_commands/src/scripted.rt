@@ -1,4 +1,4 @@
-//! Runs of which a script has the events, and what is told of them.
+//! Runs whose events a script has, and what is printed of them.
 
 use crate::progress::{Gauge, Meter};
 use crate::runs;
@@ -8,7 +8,7 @@ use hosts::{End, Failure, Host, Screen, tell};
 use std::alloc::Global;
 use std::io::Write;
 
-/// Tells how a run ended, behind what else is to be told of it, and then what was not written; answers the status to
+/// Prints how a run ended, after what else is to be printed of it, and then what was not written; returns the status to
 /// exit with.
 pub fn finish<'a, H: Host, E: Write>(
     end: End,
@@ -26,7 +26,7 @@ pub fn finish<'a, H: Host, E: Write>(
     }
 }
 
-/// The command `flat`: boots a flat program, runs a script, and tells how that ended.
+/// The command `flat`: boots a flat program, runs a script, and prints how that ended.
 pub fn flat<H: Host, S: Screen, W: Write, E: Write>(
     alloc: Global,
     words: Flat<'_>,
@@ -53,8 +53,8 @@ pub fn flat<H: Host, S: Screen, W: Write, E: Write>(
     }
 }
 
-/// The command `run`: boots a machine from an image, runs a script, and tells how that ended. The image that is left is
-/// written before.
+/// The command `run`: boots a machine from an image, runs a script, and prints how that ended. The image that is left
+/// is written before.
 pub fn run<H: Host, S: Screen, W: Write, E: Write>(
     alloc: Global,
     words: Run<'_>,

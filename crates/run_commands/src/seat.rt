@@ -13,7 +13,7 @@ use std::fmt;
 use std::io::Write;
 use sv39::Translate;
 
-/// Control-A: the key behind it is for the session, as at QEMU.
+/// Control-A: the key after it is for the session, as in QEMU.
 const ESCAPE: u8 = 0x01;
 
 /// Control-P: the processes are shown.
@@ -28,7 +28,7 @@ const MOST_WAITING: usize = 4096;
 /// The most processes that a machine has.
 const MOST_PROCESSES: usize = 64;
 
-/// The key that ends a session behind an escape.
+/// The key that ends a session after an escape.
 const LEAVE: u8 = b'x';
 
 // What a typed byte is.
@@ -40,7 +40,7 @@ enum Typed {
     End,
 }
 
-// What is told of a process: its pid, what it does, and its size.
+// What is shown of a process: its pid, what it does, and its size.
 #[derive(Clone, Copy)]
 struct Line(Seen);
 
@@ -164,7 +164,7 @@ impl<'a, 'b, H: Host, S: Screen, E: Write> Seat<'a, 'b, H, S, E> {
     }
 }
 
-// What a byte is, behind an escape or not: from a pipe or a file always a key.
+// What a byte is, after an escape or not: from a pipe or a file always a key.
 fn meaning(is_terminal: bool, is_escaped: bool, byte: u8) -> Typed
     ensures piped { is_terminal ≡ false → result ≡ Key byte }
     ensures escaped { is_escaped ≡ true → byte ≢ 120 → result ≡ Key byte }

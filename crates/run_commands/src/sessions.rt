@@ -20,7 +20,7 @@ use std::alloc::Global;
 use std::io::Write;
 use sv39::{Tlb, Translate};
 
-/// How many steps there are between two ticks where it isn't told.
+/// How many steps there are between two ticks by default.
 const QUANTUM: u32 = 10_000;
 
 /// The most steps of a line of a script.
@@ -123,7 +123,7 @@ fn live<'a, H: Host, S: Screen, W: Write, E: Write>(
     Ok((ran.end, recorded.and(saved)))
 }
 
-// Tells how a session ended, behind the words that replay it, where there is a record and nothing failed.
+// Prints how a session ended, after the command that replays it, where there is a record and nothing failed.
 fn tell_end<E: Write>(words: &Live<'_>, end: End, is_whole: bool, stderr: &mut E) {
     if let Some(script) = words.script
         && is_whole
@@ -135,7 +135,7 @@ fn tell_end<E: Write>(words: &Live<'_>, end: End, is_whole: bool, stderr: &mut E
     let _ = writeln!(stderr, "{end}");
 }
 
-/// Boots a machine from an image, gives it what is typed, and tells how that ended. The image that is left is written
+/// Boots a machine from an image, gives it what is typed, and prints how that ended. The image that is left is written
 /// before.
 pub fn perform<H: Host, S: Screen, W: Write, E: Write>(
     alloc: Global,

@@ -1,4 +1,4 @@
-//! What is told of a run besides the console's bytes and how it ended.
+//! What is reported of a run besides the console's bytes and how it ended.
 
 use blockdev::BlockDev;
 use commandline::Telling;
@@ -12,7 +12,7 @@ use std::num::NonZeroU64;
 use sv39::Translate;
 use unixmodel::event::Event;
 
-/// Looks on at a run, and keeps what is to be told of it.
+/// Watches a run, and keeps what is to be reported of it.
 #[derive(Drop)]
 pub struct Teller {
     alloc: Global,
@@ -29,7 +29,7 @@ pub fn pid_of(number: Option<NonZeroU64>) -> Option<u32> {
 }
 
 impl Teller {
-    /// Looks on at a run whose first program has this name.
+    /// Watches a run whose first program has this name.
     pub fn new(alloc: Global, first: &str, telling: &Telling<'_>) -> Teller {
         let wanted = Wanted {
             report: telling.report,
@@ -89,7 +89,7 @@ impl Watch for Teller {
     }
 }
 
-/// Two that look on, the first one first.
+/// Two watchers, the first one first.
 #[derive(Drop)]
 pub struct Both<A, B> {
     pub first: A,
@@ -137,7 +137,7 @@ impl<A: Watch, B: Watch> Watch for Both<A, B> {
     }
 }
 
-/// Whether anything is to be told that one has to look on for.
+/// Whether anything is to be reported for which a run has to be watched.
 pub fn looks_on(telling: &Telling<'_>) -> bool {
     telling.report
         || telling.json.is_some()
