@@ -8,8 +8,8 @@ use unixmodel::event::Event;
 // More steps than the program takes to read the file once more.
 const STEPS: usize = 200;
 
-// Steps until the file was read so often: how often the disk was read until then. `None`: it was written, or not read
-// so often.
+// Takes steps until the file was read `rounds` times. Returns how often the disk was read until then; `None` if the
+// disk was written, or the file not read that often.
 fn reads_until(run: &mut Run<Plain>, rounds: u64) -> Option<u64> {
     for _ in 0..STEPS {
         run.event(Event::Step).ok()?;
@@ -33,7 +33,7 @@ fn rereads(run: &mut Run<Plain>) -> Option<(u64, u64)> {
     Some((second.wrapping_sub(first), third.wrapping_sub(second)))
 }
 
-// The same of a file of so many bytes.
+// The same for a file of `bytes` bytes.
 fn reads_again(alloc: Global, bytes: usize) -> Option<(u64, u64)> {
     let room = Room {
         frames: 64,

@@ -24,15 +24,16 @@ pub(crate) fn expect_row(rt: &impl Abort, name: &str, holds: Option<bool>) {
 pub(crate) enum Given<'a> {
     /// The program of a text.
     Program(&'a str),
-    /// The program of a text, whose pages may be read and executed alone.
+    /// The program of a text, whose pages may only be read and executed.
     ReadOnly(&'a str),
-    /// A file of so many zeros.
+    /// A file of this many zeros.
     Zeros(usize),
     /// The console.
     Console,
 }
 
-/// Where a program's file has the flags of its one segment, and those that let it be read and executed alone.
+/// The offset of the flags of the one segment in a program's file, and the flags by which it may only be read and
+/// executed.
 const FLAGS: usize = 68;
 
 const READ_EXECUTE: u8 = 5;
@@ -64,14 +65,14 @@ fn thing_of(alloc: Global, given: Given<'_>) -> Option<Thing> {
     Some(Thing::File(bytes_of(alloc, given)?))
 }
 
-// A path, and what stands there.
+// A path, and what is there.
 fn entry(alloc: Global, path: &str, given: Given<'_>) -> Option<Entry> {
     let thing = thing_of(alloc, given)?;
     let path = Vec::from_slice(alloc, path.as_bytes()).ok()?;
     Some(Entry { path, thing })
 }
 
-/// The image of so many blocks that has these at their paths: the numbers from 2 on, of sixteen.
+/// The image of `blocks` blocks and 16 inodes that has these at their paths, as inodes 2 and up.
 pub(crate) fn image_with(
     alloc: Global,
     files: &[(&str, Given<'_>)],
@@ -84,8 +85,8 @@ pub(crate) fn image_with(
     make(alloc, &Manifest { entries }, blocks, 16).ok()
 }
 
-/// The image of so many blocks whose `/init` is the program of this text, and whose `/big` has so many bytes: the
-/// numbers 2 and 3 of sixteen.
+/// The image of `blocks` blocks and 16 inodes whose `/init`, inode 2, is the program of this text, and whose `/big`,
+/// inode 3, has `big` bytes.
 pub(crate) fn image_of(alloc: Global, text: &str, big: usize, blocks: u32) -> Option<Vec<u8>> {
     let files = [("/init", Given::Program(text)), ("/big", Given::Zeros(big))];
     image_with(alloc, &files, blocks)
@@ -110,7 +111,7 @@ pub(crate) type Whole = Run<Plain>;
 /// A machine that goes through them in pieces.
 pub(crate) type Parted = Run<Tlb<64>>;
 
-/// A machine of so many frames, and an image of so many blocks from which it boots.
+/// How many frames a machine has, and how many blocks the image from which it boots.
 #[derive(Clone, Copy)]
 pub(crate) struct Room {
     pub(crate) frames: u32,
@@ -130,7 +131,7 @@ pub(crate) fn flat(alloc: Global, program: &[u8]) -> Option<Whole> {
     Some(Run { machine, out })
 }
 
-/// The machine of so many frames that boots from an image.
+/// The machine of `frames` frames that boots from an image.
 pub(crate) fn run_on<T: Translate>(
     alloc: Global,
     image: Vec<u8>,
@@ -142,7 +143,7 @@ pub(crate) fn run_on<T: Translate>(
 }
 
 impl<T: Translate> Run<T> {
-    /// A machine of so many frames that boots from a disk. `None`: it doesn't boot.
+    /// A machine of `frames` frames that boots from a disk. `None`: it doesn't boot.
     pub(crate) fn boot(alloc: Global, disk: MemDisk, translator: T, frames: u32) -> Option<Run<T>> {
         let machine = boot(alloc, disk, translator, frames).ok()?;
         let out = Writer::new(Vec::new(alloc));
@@ -174,7 +175,7 @@ impl<T: Translate> Run<T> {
         self.machine.run(events, &mut self.out)
     }
 
-    /// Whether so many steps are done, none of which stops the machine.
+    /// Takes `count` steps, up to the first that stops the machine; whether none does.
     pub(crate) fn steps(&mut self, count: usize) -> bool {
         for _ in 0..count {
             if self.event(Event::Step).is_err() {

@@ -1,4 +1,4 @@
-//! Programs of a few words, each run to its last: the fault that is told is the one that comes.
+//! Programs of a few words, each run to its last: the fault that is predicted is the one that is raised.
 use crate::disks::{Whole, expect_row, flat};
 use causes::{Fault, fault_of};
 use machine::Halt;
@@ -6,7 +6,7 @@ use std::alloc::Global;
 use unixmodel::event::Event;
 use unixmodel::trap::{Cause, Trap};
 
-/// The cause and the address that a fault is told with, and that as a text.
+/// The cause and the address of a predicted fault, and its text.
 type Wanted = (Cause, u64, &'static str);
 
 /// The name of a program, its words, and the fault of the last one.
@@ -237,7 +237,7 @@ fn booted(alloc: Global, words: &[u32]) -> Option<Whole> {
     flat(alloc, program.as_slice())
 }
 
-// Whether a fault is told so.
+// Whether a predicted fault is this one, with this text.
 fn is_told(alloc: Global, fault: &Fault, (cause, address, words): Wanted) -> bool {
     match format!(in alloc; "{fault}") {
         Ok(text) => fault.trap == Trap { cause, address } && text.as_str() == words,
@@ -245,7 +245,7 @@ fn is_told(alloc: Global, fault: &Fault, (cause, address, words): Wanted) -> boo
     }
 }
 
-// Whether the fault that is told before the last word is this one, and comes.
+// Whether the fault that is predicted before the last word is this one, and is raised.
 fn tells(alloc: Global, run: &mut Whole, wanted: Option<Wanted>) -> bool {
     let told = fault_of(&run.machine, 1);
     let ended = run.event(Event::Step);

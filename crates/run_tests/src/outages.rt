@@ -34,7 +34,7 @@ enum Course {
     Strays = 9,
 }
 
-// A machine whose disk fails after so many good accesses. `None`: as it boots.
+// A machine whose disk fails after `good` good accesses. `None`: it fails as the machine boots.
 fn booted(alloc: Global, image: &[u8], good: u64) -> Option<Failing> {
     let disk = disk_of(alloc, image)?;
     boot(
@@ -53,7 +53,8 @@ fn step(alloc: Global, machine: &mut Failing) -> (Result<(), Halt>, Vec<u8>) {
     (done, out.into_inner())
 }
 
-// Steps up to the one at which it stops: why it does. What they print goes into the text; the last one prints nothing.
+// Takes steps up to the one at which it stops, and returns why. What they print is appended to the text; the last one
+// prints nothing.
 fn go(
     alloc: Global,
     machine: &mut Failing,
@@ -69,14 +70,14 @@ fn go(
     Ok(None)
 }
 
-// Whether events are answered by that it has halted.
+// Whether events are refused since the machine has halted.
 fn is_still(alloc: Global, machine: &mut Failing) -> bool {
     let mut out = Writer::new(Vec::new(alloc));
     machine.step(Event::Step, &mut out) == Err(Halt::Halted)
         && machine.run(&[Event::Tick], &mut out) == Err(Halt::Halted)
 }
 
-// Whether it tells nothing of its disk, and its process can be looked at still.
+// Whether it returns nothing of its disk, and its process can still be looked at.
 fn is_mute(machine: &mut Failing) -> bool {
     machine.stat_inode(1) == Err(Halt::Halted)
         && machine.read_inode(1, 0, &mut [0; 16]) == Err(Halt::Halted)
@@ -84,7 +85,7 @@ fn is_mute(machine: &mut Failing) -> bool {
         && machine.peek(1, 0).is_some()
 }
 
-// Whether it answers that it has halted, whatever it is asked for.
+// Whether events and files are refused since the machine has halted.
 fn is_shut(alloc: Global, machine: &mut Failing) -> bool {
     is_still(alloc, machine) && is_mute(machine)
 }

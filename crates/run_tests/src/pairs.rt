@@ -40,7 +40,7 @@ static FILES: [(&str, Given<'static>); 2] = [
 /// More steps than the program takes until it counts, of which it counts in every other one.
 const STEPS: u32 = 60;
 
-// An event of each of two machines, so often, and whether their digests are the same behind each.
+// An event for each of two machines, `times` times, and whether their digests are the same after each.
 #[derive(Clone, Copy)]
 struct Act {
     events: (Event, Event),
@@ -90,7 +90,7 @@ static OTHER_KEY: [Act; 4] = [
     },
 ];
 
-// A machine that boots from an image of so many blocks.
+// A machine that boots from an image of `blocks` blocks.
 fn booted<T: Translate>(alloc: Global, translator: T, blocks: u32) -> Option<Run<T>> {
     let image = image_with(alloc, &FILES, blocks)?;
     run_on(alloc, image, translator, FRAMES)
@@ -123,14 +123,14 @@ fn does_each<T: Translate>(one: &mut Whole, other: &mut Run<T>, acts: &[Act]) ->
     true
 }
 
-// Whether two steps give another digest: the program counts in one register, and its pc is back at the same place.
+// Whether two steps give another digest: the program counts in one register, and its pc is the same again.
 fn counts(run: &mut Whole) -> bool {
     let digest = run.machine.digest().ok();
     let _before = after(run, Event::Step);
     digest.is_some() && digest != after(run, Event::Step)
 }
 
-// Whether a machine's digests are as the acts say beside one with this translator, from an image of so many blocks.
+// Whether a machine's digests are as the acts say beside one with this translator, from an image of `blocks` blocks.
 fn goes_beside<T: Translate>(
     alloc: Global,
     one: &mut Whole,

@@ -19,7 +19,7 @@ const PAGES: u64 = 4;
 
 const NODES: usize = 17;
 
-/// Numbers that look like thrown ones, and are always the same.
+/// Numbers that look random, and are always the same.
 #[derive(Clone, Copy)]
 pub(crate) struct Dice(pub(crate) u64);
 

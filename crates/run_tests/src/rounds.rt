@@ -46,7 +46,7 @@ fn is_waiting<T: Translate>(run: &Run<T>) -> bool {
     }
 }
 
-// Steps until process 1 waits and goes on waiting, and tells how many.
+// Takes steps until process 1 waits and goes on waiting, and returns how many.
 fn settle<T: Translate>(run: &mut Run<T>) -> Option<usize> {
     let mut rests = 0u32;
     for count in 0..STEPS {
@@ -73,8 +73,8 @@ fn waiting<T: Translate>(alloc: Global, disk: MemDisk, translator: T) -> Option<
     Some(run)
 }
 
-// Saves a machine, of which no process matters: what it leaves, which the check accepts. Its text goes behind what was
-// printed before.
+// Saves a machine, none of whose processes matters. Returns the disk that it leaves, which the check accepts. Its text
+// is appended to what was printed before.
 fn put_away(alloc: Global, run: Parted, text: &mut Vec<u8>) -> Option<MemDisk> {
     let (mut disk, printed) = run.left()?;
     text.extend_from_slice(printed.as_slice()).ok()?;
@@ -107,9 +107,8 @@ fn go_round(alloc: Global, whole: &mut Whole, parted: &mut Parted, dice: &mut Di
     }
 }
 
-// All rounds, with a save and a boot behind each: the machine that was booted at last. What is printed goes into the
-// text. `None`:
-// the two differ.
+// All rounds, with a save and a boot after each. Returns the machine that was booted last; `None` where the two differ.
+// What is printed is appended to the text.
 fn go_on(
     alloc: Global,
     whole: &mut Whole,

@@ -1,4 +1,4 @@
-//! What is told of files that a machine holds or fills, and what is saved of them.
+//! What is shown of files that a machine holds or fills, and what is saved of them.
 use crate::disks::{Room, Run, Whole, disk_of, expect_row, image_of, run_of};
 use crate::sources::{FILLER, HOLDER};
 use blockdev::MemDisk;
@@ -13,7 +13,7 @@ const STEPS: usize = 60;
 // The number that the held file gets: 1 is the root's, 2 and 3 are those of `/init` and `/big`.
 const HELD: usize = 4;
 
-// Whether a file has this number, and is as told.
+// Whether the file with this number has this status.
 fn has_file(run: &mut Whole, number: usize, stat: Stat) -> bool {
     match run.machine.stat_inode(number) {
         Ok(Some(found)) => found == stat,
@@ -50,7 +50,7 @@ fn is_as_before(alloc: Global, disk: &mut MemDisk) -> bool {
     }
 }
 
-// Whether it is so before a machine holds a file, three times, and behind that.
+// Whether it is so before a machine holds a file, three times, and after that.
 fn stays(alloc: Global, mut disk: MemDisk) -> Option<bool> {
     for _ in 0..3 {
         let is_as_before = is_as_before(alloc, &mut disk);
@@ -62,7 +62,7 @@ fn stays(alloc: Global, mut disk: MemDisk) -> Option<bool> {
     Some(is_as_before(alloc, &mut disk))
 }
 
-// The disk is that of the image, of which `check` tells what is in use: the held file's inode and block aren't.
+// The disk is that of the image, of which `check` says what is in use: the held file's inode and block aren't.
 #[test]
 fn what_is_held_without_a_name_is_not_saved(rt: HostRuntime) {
     let alloc = rt.alloc();

@@ -57,15 +57,15 @@ const ENDED: (u32, u32) = (4, 0);
 // What is done with a session, and what it gives.
 #[derive(Clone, Copy)]
 enum Act {
-    // As many steps as there are up to so many: how many, and why it stops.
+    // As many steps as there are, up to `MANY`: how many, and why it stops.
     Runs(u32, Option<Halt>),
-    // So many steps: why it stops.
+    // This many steps: why it stops.
     Steps(u32, Option<Halt>),
     // Whether nobody runs or is ready.
     Idle(bool),
     // Process 1 is in a state, in a call.
     Is((u32, u32)),
-    // What is taken, with room for so many bytes.
+    // What is taken, with room for this many bytes.
     Takes(usize, &'static [u8]),
     // A byte is typed.
     Types(u8),
@@ -73,7 +73,7 @@ enum Act {
     Ticks,
 }
 
-// Whether these bytes are what is taken, with room for so many.
+// Whether these bytes are what is taken, with room for `room` bytes.
 fn takes(session: &mut Session, room: usize, bytes: &[u8]) -> bool {
     let mut out = [0; 4];
     let count = session.take_console(&mut out[..room.min(4)]);
@@ -97,7 +97,7 @@ fn stops(answer: Result<(), Halt>, halt: Option<Halt>) -> bool {
     }
 }
 
-// Whether it takes so many steps, and stops for that reason.
+// Whether it takes `steps` steps, and stops for that reason.
 fn runs(session: &mut Session, steps: u32, halt: Option<Halt>) -> bool {
     let ran = session.run(MANY);
     ran.steps == steps && stops(ran.answer, halt)
@@ -164,7 +164,7 @@ static ROWS: [Row; 3] = [
             Types(b'\n'),
             Ticks,
             Takes(4, b"x\n"),
-            // A turn that answers the read, two instructions for each `li`, and the call.
+            // A turn in which the read returns, two instructions for each `li`, and the call.
             Runs(6, Some(Halt::InitEnded(7))),
             Steps(0, Some(Halt::Halted)),
             Runs(0, Some(Halt::Halted)),
@@ -236,7 +236,7 @@ fn sessions_are_played(rt: HostRuntime) {
     }
 }
 
-// Whether the pages of process 1 are told, and no others.
+// Whether the pages of process 1 are shown, and no others.
 fn tells_pages(session: &Session) -> Option<bool> {
     let mut out = [9; 8];
     let marks = session.page(1, 0, &mut out[..4])?;
@@ -245,7 +245,7 @@ fn tells_pages(session: &Session) -> Option<bool> {
     Some(begins && session.page(2, 0, &mut out).is_none() && session.process(2).is_none())
 }
 
-// Whether `/init` is told, and no node of another number.
+// Whether `/init` is shown, and no node of another number.
 fn tells_files(session: &mut Session) -> Option<bool> {
     let mut out = [9; 8];
     let stat = session.stat(2).ok()??;
@@ -255,7 +255,7 @@ fn tells_files(session: &mut Session) -> Option<bool> {
     Some(stat.kind == 2 && is_none && begins)
 }
 
-// The fault that an image is told to have; `None` where it boots.
+// The fault for which an image doesn't boot; `None` where it boots.
 fn fault(alloc: Global, image: &[u8], frames: u32) -> Option<BootFault> {
     match Session::boot(alloc, image, frames) {
         Ok(session) => {
@@ -280,7 +280,7 @@ fn pages_and_files_are_told(rt: HostRuntime) {
     expect_row(&rt, "what is saved", is_saved(rt.alloc(), session));
 }
 
-// Whether too few frames, and zeros in place of an image, are told.
+// Whether too few frames, and zeros instead of an image, are refused.
 fn refuses(alloc: Global) -> Option<bool> {
     let image = image(alloc)?;
     let frames = fault(alloc, image.as_slice(), 63);

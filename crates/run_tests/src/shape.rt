@@ -15,14 +15,14 @@ struct Mark<'a> {
     until: u64,
 }
 
-// What stands behind a key, up to one of these ends.
+// What follows a key, up to one of these ends.
 fn text_of<'a>(line: &'a str, key: &str) -> Option<&'a str> {
     let (_, rest) = line.split_once(key)?;
     let (text, _) = rest.split_once(['"', ',', '}'])?;
     Some(text)
 }
 
-// The number behind a key.
+// The number after a key.
 fn number_of(line: &str, key: &str) -> Option<u64> {
     text_of(line, key)?.parse::<u64>().ok()
 }

@@ -1,4 +1,4 @@
-//! Programs as `/init`, what happens to them, and all that is told of that.
+//! Programs as `/init`, what happens to them, and all that is reported of that.
 use crate::disks::{Given, Whole, expect_row, image_with, run_on};
 use crate::samples;
 use machine::Halt;

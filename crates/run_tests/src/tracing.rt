@@ -53,7 +53,7 @@ impl Sinks for Pages {
     }
 }
 
-// Gives a machine an event, and tells whether it goes on.
+// Gives a machine an event, and returns whether it goes on.
 fn give(run: &mut Whole, tracer: &mut Tracer<Pages>, event: Event) -> bool {
     tracer.before(&run.machine, event);
     let ended = run.event(event);
@@ -165,7 +165,7 @@ const PIPELINE: [(&str, Given<'static>); 4] = [
     ("/cat", Given::Program(CAT)),
 ];
 
-/// Code that is loaded by hand, what calls answered and wrote, a load, a store and a branch.
+/// Code that is loaded by hand, what calls returned and wrote, a load, a store and a branch.
 const COMMITS: [&str; 5] = [
     "# pid 1 size 12288\n# pid 1 pc 0x0000000000000000\n# pid 1 x2 0x0000000000002fe0\n",
     "core   0: 0 0x0000000000000048 (0x00488893) x17 0x0000000000000004\n# pid 1 pipe = 0\n# pid 1 mem 0x0000000000002fa0 0300000004000000\n",
