@@ -55,7 +55,7 @@ module _ {X R : Type 0} (Says : List ℕ → X → Type 0) (now : R → List ℕ
       go (x ∷ xs) f e k = rw (take_more (map now lines) i [] long, f)
           (said-more Says (take i (map now lines)) items x xs item h k)
 
-  -- the line says nothing
+  -- the line can't be read
   pub first-fault : false ≡ (length (now (slice_index_or lines i none)) == 0)
       → ((item : X) → ¬ (Says (now (slice_index_or lines i none)) item)) → IsFirstFault Says (map now lines) (i + 1)
   first-fault some never = record {

@@ -1,4 +1,4 @@
--- Lines of a manifest that say nothing.
+-- Lines of a manifest that can't be read.
 use Rattle.std.proofs.Common.{◌≡◌, ◌++◌, ◌<◌, ◌∙◌, ℕ, List, None, Option, Some, [], ap, arith, codes, drop}
 use Rattle.std.proofs.Common.{slice_index_or, subst, sym}
 use Rattle.scripts.specs.Manifests.{IsDevice, IsFile, IsLine, IsMajor, split_field}

@@ -4,7 +4,7 @@ use Rattle.std.specs.List.{slice_index_or, slice_split}
 use Rattle.scripts.specs.declared.lines.TextFault.{TextFault}
 use Rattle.scripts.specs.declared.lines.TextFault.TheVariants as fault
 
--- the lines of a text, each ended by LF but for the last
+-- the lines of a text, each ended by LF except the last
 abbrev pub lines_of : List ℕ → List (List ℕ)
 lines_of text = slice_split (λ byte. byte == 10) text
 
@@ -15,7 +15,7 @@ AreSaid Says ([] ∷ lines) items = AreSaid Says lines items
 AreSaid Says ((x ∷ xs) ∷ lines) items = (item : _) × (rest : List _) × (items ≡ item ∷ rest) × Says (x ∷ xs) item
     × AreSaid Says lines rest
 
--- the first line that says nothing, counted from 1
+-- the first line that can't be read, counted from 1
 pub record IsFirstFault {X : Type 0} (Says : List ℕ → X → Type 0) (lines : List (List ℕ)) (number : ℕ) : Type 0 where
   pub index : ℕ
   pub counted : number ≡ index + 1
@@ -25,7 +25,7 @@ pub record IsFirstFault {X : Type 0} (Says : List ℕ → X → Type 0) (lines :
   pub before : List X
   pub sound : AreSaid Says (take index lines) before
 
--- why a text of these lines can't be read: a line says nothing, or memory ran out
+-- why a text of these lines can't be read: one of its lines can't, or memory ran out
 abbrev pub IsFaultOf : {X : Type 0} → (List ℕ → X → Type 0) → List (List ℕ) → TextFault → Type 0
 IsFaultOf Says lines (fault.Line number) = IsFirstFault Says lines number
 IsFaultOf Says lines fault.NoMemory = ⊤

@@ -6,7 +6,7 @@ use Rattle.std.specs.Str.Parse.{IsNumeral, digits_value}
 use Rattle.scripts.specs.declared.manifest.Line.{Line}
 use Rattle.scripts.specs.declared.manifest.Line.TheVariants as line
 
--- the bytes before the first blank, and those behind it
+-- the bytes before the first blank, and those after it
 abbrev pub split_field : List ℕ → Option (List ℕ × List ℕ)
 split_field bytes = option_map (λ at. (take at bytes, drop (at + 1) bytes)) (position (λ b. b == 0x20) bytes)
 
@@ -16,7 +16,7 @@ pub record IsMajor (digits : List ℕ) (n : ℕ) : Type 0 where
   pub value : digits_value 10 digits ≡ n
   pub bound : n ≤ 32767
 
--- what stands behind the first word of a line, field by field
+-- what follows the first word of a line, field by field
 abbrev pub IsDirectory : List ℕ → List ℕ → Type 0
 IsDirectory rest path = (path ≡ rest) × (split_field rest ≡ None)
 

@@ -7,7 +7,7 @@ use std::alloc::{AllocError, AllocFailed, Global};
 /// Why a text can't be read.
 #[derive(Clone, Copy)]
 pub enum TextFault {
-    /// The line of this number, from 1 on, says nothing.
+    /// The line of this number, from 1 on, can't be read.
     Line(usize),
     /// Memory ran out.
     NoMemory,
@@ -43,7 +43,7 @@ pub trait FromLine<'a>: Sized + Drop {
         ensures { IfOk result (λ found. MatchOption found ((said : Self) → ¬ (says line.now said)) (says line.now)) };
 }
 
-// The lines of a text, each ended by LF but for the last.
+// The lines of a text, each ended by LF except the last.
 fn split_lines<'a>(alloc: Global, text: &'a [u8]) -> Result<Vec<&'a [u8]>, AllocError>
     ensures { IfOk result (λ lines. map (λ line. line.now) lines.items ≡ lines_of text.now) }
 {

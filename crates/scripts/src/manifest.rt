@@ -10,7 +10,7 @@ use std::alloc::{AllocError, Global};
 /// The highest number of a device.
 const MOST: u32 = 32767;
 
-/// What a line of a manifest says: a path, and what stands there.
+/// What a line of a manifest says: a path, and what is there.
 #[derive(Clone, Copy)]
 pub enum Line<'a> {
     /// A directory.
@@ -21,7 +21,7 @@ pub enum Line<'a> {
     Device(&'a [u8], u16, u16),
 }
 
-// The place of the first blank.
+// The index of the first blank.
 fn first_blank(bytes: &[u8]) -> Option<usize>
     ensures place { result ≡ position (λ b. b == 0x20) bytes.now }
     ensures within { IfSome result (λ at. at < length bytes.now) }
@@ -29,7 +29,7 @@ fn first_blank(bytes: &[u8]) -> Option<usize>
     bytes.iter().position(|byte| *byte == b' ')
 }
 
-// The bytes before the first blank, and those behind it.
+// The bytes before the first blank, and those after it.
 fn split_field<'a>(bytes: &'a [u8]) -> Option<(&'a [u8], &'a [u8])>
     ensures { option_map (λ two. (two.0.now, two.1.now)) result ≡ split_field bytes.now }
 {

@@ -6,9 +6,9 @@ use std::alloc::{AllocError, Global};
 /// What a line of a script says.
 #[derive(Drop)]
 pub enum Command<'a> {
-    /// So many steps.
+    /// This many steps.
     Step(u32),
-    /// So many timer interrupts.
+    /// This many timer interrupts.
     Tick(u32),
     /// Typed keys.
     Keys(Vec<u8>),
