@@ -9,7 +9,7 @@ use Rattle.std.proofs.lemmas.List.{drop-drop, drop_all, length-append, length-dr
 use Rattle.std.proofs.lemmas.List.{take_all}
 use Rattle.session.specs.Copied.{copied}
 
--- of two numbers the least is one, where the other is no less
+-- the minimum of two numbers is one of them, and the other is no less
 min-cases : (x y : ℕ) → ((min x y ≡ x) × (x ≤ y)) ⊎ ((min x y ≡ y) × (y ≤ x))
 min-cases x y = elim (cases_lt x y) [
   | inl less ↦ let h : x ≤ y = omega (arith, less) in inl (min-eq_left h, h)

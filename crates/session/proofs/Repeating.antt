@@ -106,7 +106,7 @@ same-view : (a b : View) → a.state ≡ b.state → a.failures ≡ b.failures �
     → a ≡ b
 same-view a b p q r s = λ i. record { state = p i; failures = q i; failed = r i; identity = s i }
 
--- the machine and the bytes stay, and a machine that is up says so
+-- without events the machine and the bytes stay, and the result says whether the machine takes events
 pub stands : (old new : View) (xs ys : List ℕ) (rising : Type 0) (r : Result (Unit {0}) Halt)
     → RunGives old new [] (Some xs) (Some ys) rising r
     → old.failures ≡ 0 → new.failures ≡ 0 → (new ≡ old) × (ys ≡ xs) × (IsUp old ↔ (is_ok r ≡ true))
@@ -156,7 +156,7 @@ tells-of old new events xs ys rising (Err Device) zero k =
 tells-of old new events xs ys rising (Err Console) zero k = k
 tells-of old new events xs ys rising (Err Halted) zero k = k
 
--- a machine that takes events is not told as one that had stopped
+-- a run of a machine that takes events never returns `Halted`
 never : (old new : View) (events : List Event) (before after : Option (List ℕ)) (rising : Type 0) (n : ℕ)
     (r : Result (Unit {0}) Halt) → IsUp old → RunGives old new events before after rising r → IsErrOf r Halted → n ≡ 0
 never old new events before after rising n (Ok u) up k is = absurd cc
@@ -195,7 +195,7 @@ refused old new xs ys stopped same bytes =
 
 -- ---- why a session doesn't begin, and the bytes of its disk
 
--- bytes that are no whole blocks
+-- bytes that are not whole blocks
 pub length-refused : (image : List ℕ) (frames : ℕ) → length image % 1024 ≢ 0 → Refuses image frames (Image Length)
 length-refused image frames odd =
     (tt, λ h. odd (let w = h.whole in omega arith), λ files d. odd (let w = d.super.whole in omega arith))
@@ -205,7 +205,7 @@ fault-refused : {D : Type 0} (identity : D → List ℕ) (at : D) (image : List 
 fault-refused identity at image frames BootFault.Device why = absurd (let rises = why.1.rises in omega (arith, rises))
 fault-refused identity at image frames _ why = why
 
--- what is told of a fault is told of the answer that passes it on
+-- what holds of a fault holds of the result that passes it on
 pub refused-on : {T D : Type 0} (identity : D → List ℕ) (at : D) (image disk : List ℕ) (frames : ℕ)
     (r : Result T BootFault) (f : BootFault) → IsErrAnd r (λ e. e ≡ f) → disk ≡ image
     → IsUnbooted identity (λ d. 0) at disk frames f → IfErr r (Refuses image frames)
@@ -234,7 +234,7 @@ pub disk-image : (image bytes disk : List ℕ) (len : ℕ) → bytes ≡ image �
 disk-image image bytes disk len copy made is whole =
     ap (λ bs. image_of (blocks_of bs)) (made ∙ copy) ∙ image_of-blocks image (ap (λ n. n % 1024) (sym is) ∙ whole)
 
--- one that was made of a copy, which is refused only where it is no whole blocks
+-- a disk that was made of a copy, which is refused only where its bytes are not whole blocks
 pub copied : {image bytes disk : List ℕ} {len : ℕ} {E : Type 0} → (len % 1024 ≢ 0 → E) → (E → ⊥) → bytes ≡ image
     → disk ≡ bytes → len ≡ length image → image_of (blocks_of disk) ≡ image
 copied {image} {bytes} {disk} {len} {E} odd none copy made is =

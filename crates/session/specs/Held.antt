@@ -69,7 +69,7 @@ pub record IsOpen (m : View) (file : ℕ) (told : OpenedTold) : Type 0 where
   pub numbers : told ≡ opened_told file opened
   pub opens : slot m.state.opens file ≡ Some (file_told opened)
   pub count : opened.descriptors ≡ descriptors_on m.state file
-  -- a node's kind is of no account once the machine has failed
+  -- a node's kind doesn't matter once the machine has failed
   pub kind : m.failed ≡ false → IsOfKind m.state.files opened.on
 
 -- that of the open file that the descriptor names
@@ -85,7 +85,7 @@ ShowsDescriptor m pid descriptor told =
 
 -- ---- pipes
 
--- the bytes of the pipe, if there is one, are copied, and how many they are is known
+-- the bytes of the pipe, if there is one, are copied, and how many it has is returned
 abbrev pub ShowsPipe : Option (List ℕ) → List ℕ → List ℕ → Option ℕ → Type 0
 ShowsPipe None old new None = new ≡ old
 ShowsPipe None old new (Some count) = ⊥

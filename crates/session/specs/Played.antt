@@ -1,4 +1,4 @@
--- What a session answers to events and looks, and what it leaves. Its disk is in memory and never fails.
+-- What a session returns for events and looks, and what it leaves. Its disk is in memory and never fails.
 use Rattle.std.proofs.Common.{Global, Vec}
 use Rattle.std.specs.Prelude.{Err, IsErrOf, List, Ok, OnOk, Option, Result, Some, [], false, length, replicate, true, ℕ}
 use Rattle.std.specs.Prelude.{◌<◌, ◌∷◌, ◌≡◌, ◌≤◌}
@@ -36,7 +36,7 @@ Refuses image frames f = IsUnbooted {D = Unit {0}} (λ u. []) (λ u. 0) tt image
 
 -- ---- events
 
--- what an event that makes `a` is answered with, over the bytes before and after; rising: the count of failures of the
+-- what an event that makes `a` returns, with the console's bytes before and after; rising: the count of failures of the
 -- console's writer rose
 abbrev pub StepTells : View → View → After → List ℕ → List ℕ → Type 0 → Result (Unit {0}) Halt → Type 0
 StepTells old new a before after rising (Err Device) = ⊥
@@ -47,7 +47,7 @@ StepAnswers old new a result =
     StepTells old.machine new.machine a (console_of old) (console_of new)
     (Rises (console_failures old) (console_failures new)) result
 
--- what a list of events is answered with
+-- what a list of events returns
 abbrev pub Tells : View → View → List Event → List ℕ → List ℕ → Type 0 → Result (Unit {0}) Halt → Type 0
 Tells old new events before after rising (Err Device) = ⊥
 Tells old new events before after rising result = RunGives old new events (Some before) (Some after) rising result
@@ -59,13 +59,13 @@ Answers old new events result =
 
 -- ---- a run until nobody is ready
 
--- so many steps were taken, none where nobody ran or was ready, and fewer than the most only where nobody does then
+-- at most `most` steps were taken, each while a process ran or was ready, and fewer only where none does then
 pub record IsAsFar (old new : View) (most : ℕ) (ran : Ran) : Type 0 where
   pub within : ran.steps ≤ most
   pub busy : IsBusyFor old.state ran.steps
   pub idle : OnOk ran.answer (ran.steps < most → is_idle new.state ≡ true)
 
--- what the run of a machine that takes events is answered with
+-- what the run of a machine that takes events returns
 pub record Advances (old new : View) (most : ℕ) (before after : Option (List ℕ)) (rising : Type 0) (ran : Ran) : Type 0
   where
     pub gives : RunGives old new (replicate ran.steps Step) before after rising ran.answer
@@ -76,7 +76,7 @@ abbrev pub AdvancesTo : {W : Type 0} → (W → Option (List ℕ)) → (W → �
 AdvancesTo contents failures old new from to most ran =
     Advances old new most (contents from) (contents to) (Rises (failures from) (failures to)) ran
 
--- what the run of a session is answered with; no step is taken by a machine that had stopped
+-- what the run of a session returns; a machine that had stopped takes no step
 pub record Runs (old new : Session) (most : ℕ) (ran : Ran) : Type 0 where
   pub answers : Answers old new (replicate ran.steps Step) ran.answer
   pub far : IsAsFar old.machine new.machine most ran
@@ -84,7 +84,7 @@ pub record Runs (old new : Session) (most : ℕ) (ran : Ran) : Type 0 where
 
 -- ---- looks, and the end
 
--- what a look at the files is answered with
+-- what a look at the files returns
 abbrev pub LookTells : {X : Type 0} → View → View → (X → Type 0) → Result X Halt → Type 0
 LookTells old new Told (Err Device) = ⊥
 LookTells old new Told result = LookGives old new Told result

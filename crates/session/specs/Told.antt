@@ -1,4 +1,4 @@
--- A process, as a session tells it in numbers.
+-- A process, as a session shows it in numbers.
 use Rattle.std.specs.Prelude.{Bool, Option, false, option_map, pos, true, ℕ, ℤ}
 use Rattle.machine.specs.declared.seen.ProcessState.{ProcessState}
 use Rattle.machine.specs.declared.seen.ProcessState.TheVariants.{Ready, Running, Waiting, Zombie}

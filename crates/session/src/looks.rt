@@ -1,4 +1,4 @@
-//! What a session tells of its machine.
+//! What a session shows of its machine.
 ghost use Rattle.std.specs.Prelude.{◌≡◌, ◌++◌, length, min};
 ghost use Rattle.session.specs.Copied.{ShowsPage, copied};
 ghost use Rattle.session.specs.Held.{ShowsDescriptor, ShowsPipe, directory_of, next_fault, wait_of};
@@ -14,7 +14,7 @@ use causes::fault_of;
 use machine::{Machine, Perm};
 use sv39::Tlb;
 
-/// Copies the front of some bytes, as many as there is room for, and tells how many.
+/// Copies the front of some bytes, as many as there is room for, and returns how many.
 pub fn copy_front(bytes: &[u8], out: &mut [u8]) -> usize
     ensures count { result ≡ min (length bytes.now) (length out.old) }
     ensures bytes { out.new ≡ copied bytes.now out.old }
@@ -33,14 +33,14 @@ fn copy_both(first: &[u8], second: &[u8], out: &mut [u8])
 }
 
 impl Session {
-    /// The machine: pids, descriptors, open files, pipes, free frames, and whether anything goes on are told by it.
+    /// The machine, from which pids, descriptors, open files, pipes, free frames, and whether it is idle are read.
     pub fn machine(&self) -> &Machine<MemDisk, Tlb<64>>
         ensures { result.now ≡ self.now.machine }
     {
         &self.machine
     }
 
-    /// What is told of the process with a pid; `None` where there is none.
+    /// The process with a pid; `None` where there is none.
     pub fn process(&self, pid: u32) -> Option<ProcessTold>
         ensures { result ≡ process_of self.now.machine.state pid }
     {
@@ -48,8 +48,8 @@ impl Session {
         Some(told(&seen))
     }
 
-    /// Copies the bytes of a page of a process, as many as there is room for, and tells its marks. `None`, and nothing
-    /// is copied, past its last page, and where there is no such process.
+    /// Copies the bytes of a page of a process, as many as there is room for, and returns its marks. `None`, and
+    /// nothing is copied, past its last page, and where there is no such process.
     pub fn page(&self, pid: u32, page: u64, out: &mut [u8]) -> Option<Perm>
         ensures { ShowsPage (shown_page self.now.machine.state pid page) out.old out.new result }
     {

@@ -1,4 +1,4 @@
-//! What a session tells of the files of its disk.
+//! What a session shows of the files of its disk.
 ghost use Rattle.std.specs.Prelude.{◌≡◌, IsErrOf, option_map};
 ghost use Rattle.calls.specs.declared.halt.Halt.TheVariants.{Halted};
 ghost use Rattle.digests.specs.Digest.{digest_of};
@@ -10,7 +10,7 @@ use crate::session::Session;
 use machine::{Halt, Stat};
 
 impl Session {
-    /// What is told of the node of the disk with this number; `None` where there is none.
+    /// The type, size and links of the node of the disk with this number; `None` where there is none.
     pub fn stat(&mut self, number: usize) -> Result<Option<Stat>, Halt>
         ensures { Looks self.old self.new
             (λ stat. stat ≡ option_map stat_seen (shown_stat self.old.machine.state number)) result }
@@ -20,8 +20,8 @@ impl Session {
         told
     }
 
-    /// Reads bytes of the node of the disk with this number into `out`, from the place `at` on and as many as there
-    /// are, and tells how many: none past its end, none of a device, and none where there is no such node.
+    /// Reads bytes of the node of the disk with this number into `out`, from offset `at` on, and returns how many: none
+    /// past its end, none of a device, and none where there is no such node.
     pub fn read(&mut self, number: usize, at: usize, out: &mut [u8]) -> Result<usize, Halt>
         ensures gives { Looks self.old self.new (ReadsAt self.old.machine.state number at out.old out.new) result }
         ensures kept { IsErrOf result Halted → out.new ≡ out.old }
@@ -30,8 +30,8 @@ impl Session {
         self.never_fails();
         count
     }
-    /// A number that is made of the whole state: machines in the same state have the same digest, and others another
-    /// one except by chance, of one in 2^64.
+    /// The digest of the whole state: machines in the same state have the same one, and others have another one, except
+    /// by chance, one in 2^64.
     pub fn digest(&mut self) -> Result<u64, Halt>
         ensures { Looks self.old self.new (λ digest. digest ≡ digest_of self.old.machine.state) result }
     {

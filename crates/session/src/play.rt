@@ -33,7 +33,7 @@ pub fn is_up(machine: &mut Machine<MemDisk, Tlb<64>>, out: &mut Writer<Vec<u8>>)
     done.is_ok()
 }
 
-/// At most so many steps of a machine that takes events, while a process runs or is ready.
+/// Takes steps of a machine that takes events while a process runs or is ready, at most `most`.
 pub fn advance<W: Out>(machine: &mut Machine<MemDisk, Tlb<64>>, most: u32, out: &mut W) -> Ran
     requires { IsUp machine.old }
     ensures advances { AdvancesTo W.contents W.failures machine.old machine.new out.old out.new most result }

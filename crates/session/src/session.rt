@@ -26,7 +26,7 @@ const FEWEST: u32 = 64;
 const MOST: u32 = 32768;
 
 /// A machine over a disk in memory, and the bytes of its console that nobody took yet. Such a disk never fails, so no
-/// call answers `Device`.
+/// call returns `Device`.
 #[derive(Drop)]
 pub struct Session {
     pub(crate) alloc: Global,
@@ -35,7 +35,7 @@ pub struct Session {
 }
 
 impl Session {
-    /// A machine that boots from a copy of an image, with so many frames, and whose console has printed nothing.
+    /// A machine that boots from a copy of an image, with `frames` frames, and whose console has printed nothing.
     ///
     /// The faults are those of `machine::boot`; `NoMemory` also where the host has no memory for the copy.
     pub fn boot(alloc: Global, image: &[u8], frames: u32) -> Result<Session, BootFault>
@@ -86,7 +86,7 @@ impl Session {
         let _disk = self.machine.device();
     }
 
-    /// So many steps, up to the first at which the machine stops.
+    /// Takes `times` steps, up to the first at which the machine stops.
     pub fn steps(&mut self, times: u32) -> Result<(), Halt>
         ensures { Answers self.old self.new (replicate times Step) result }
     {
@@ -95,8 +95,8 @@ impl Session {
         done
     }
 
-    /// At most so many steps, up to the first at which the machine stops, and none once no process runs or is ready.
-    /// `steps` of as many does the same.
+    /// Takes at most `most` steps, up to the first at which the machine stops, and none once no process runs or is
+    /// ready. `steps` of as many does the same.
     pub fn run(&mut self, most: u32) -> Ran
         ensures { Runs self.old self.new most result }
     {
@@ -111,9 +111,9 @@ impl Session {
         ran
     }
 
-    /// Instructions of the process that runs, at most `most`: up to a call or a fault, which is not done, and no
-    /// further than to the first of some addresses that the pc comes to after the first of them. Returns how many they
-    /// were: none where no process runs, and where the machine has stopped. Each is a step.
+    /// Does instructions of the process that runs, at most `most`: up to a call or a fault, which is not done, and no
+    /// further than to the first of some addresses that the pc comes to after the first of them. Each is a step.
+    /// Returns how many were done: none where no process runs, and where the machine has stopped.
     pub fn compute(&mut self, most: u32, stops: &[u64]) -> u32
         ensures computes { IsUp self.old.machine
             → Computes self.old.machine.state self.new.machine.state stops.now most result }
@@ -142,7 +142,8 @@ impl Session {
         done
     }
 
-    /// Takes the oldest of the console's bytes that nobody took yet, as many as there is room for, and tells how many.
+    /// Takes the oldest of the console's bytes that nobody took yet, as many as there is room for, and returns how
+    /// many.
     pub fn take_console(&mut self, out: &mut [u8]) -> usize
         ensures count { result ≡ min (length (console_of self.old)) (length out.old) }
         ensures bytes { out.new ≡ copied (console_of self.old) out.old }

@@ -1,10 +1,10 @@
-//! What is told of a machine, as plain numbers.
+//! What is shown of a process, as plain numbers.
 ghost use Rattle.std.specs.Prelude.{◌≡◌};
 ghost use Rattle.session.specs.Told.{call_told, flag, process_told, state_told, status_told};
 
 use machine::{ProcessState, Seen};
 
-/// A process, as it stands between two events.
+/// A process, as it is between two events.
 #[repr(C)]
 #[derive(Clone, Copy)]
 pub struct ProcessTold {
@@ -65,7 +65,7 @@ fn status(state: ProcessState) -> i32
     }
 }
 
-/// What a process is told as.
+/// A process, as plain numbers.
 pub fn told(seen: &Seen) -> ProcessTold
     ensures { result ≡ process_told seen.now }
 {
