@@ -11,7 +11,7 @@ use tracetext::{Asked, CallText, Quoted, Shown};
 /// The most bytes of a path.
 const MOST_PATH: usize = 127;
 
-/// The most arguments of a program, with the 0 behind them.
+/// The most arguments of a program, with the 0 after them.
 const MOST_ARGUMENTS: u64 = 32;
 
 /// An argument as the kernel takes it: its low 32 bits, with their sign.
@@ -35,7 +35,7 @@ fn write_address(out: &mut String, address: u64) -> Result<(), AllocError> {
     write!(out, "{address:#x}")
 }
 
-// Writes an argument as an address, behind another argument.
+// Writes an argument as an address, after another argument.
 fn write_next_address(out: &mut String, address: u64) -> Result<(), AllocError> {
     out.push_str(", ")?;
     write_address(out, address)
@@ -47,7 +47,7 @@ fn write_quoted(out: &mut String, bytes: &[u8], is_cut: bool) -> Result<(), Allo
     write!(out, "{quoted}")
 }
 
-// Writes the text that stands in memory up to a 0, quoted, or the address where none can be read.
+// Writes the text at an address, up to a 0 and quoted, or the address where none can be read.
 fn write_string<D: BlockDev, T: Translate>(
     out: &mut String,
     machine: &Machine<D, T>,
@@ -142,7 +142,7 @@ fn take_bytes<D: BlockDev, T: Translate>(
     Ok(true)
 }
 
-// Takes the first bytes of a buffer, if so many are known, or its address.
+// Takes the known bytes of a buffer, at most `most`; writes its address where none are known or can be read.
 fn write_data<D: BlockDev, T: Translate>(
     text: &mut CallText,
     machine: &Machine<D, T>,
@@ -165,7 +165,7 @@ fn write_data<D: BlockDev, T: Translate>(
     Ok(())
 }
 
-// A buffer, of which so many bytes are known, and the count that was asked for.
+// Writes a buffer, of which `known` bytes are known, and the count that was asked for.
 fn write_buffer<D: BlockDev, T: Translate>(
     text: &mut CallText,
     machine: &Machine<D, T>,
@@ -244,7 +244,7 @@ fn write_ends<D: BlockDev, T: Translate>(
     }
 }
 
-// The arguments of a program that is to run, behind its path.
+// Writes the arguments of a program that is to run, after its path.
 fn write_program<D: BlockDev, T: Translate>(
     out: &mut String,
     machine: &Machine<D, T>,
@@ -257,7 +257,7 @@ fn write_program<D: BlockDev, T: Translate>(
     out.push_str("]")
 }
 
-// The second path of a call, behind the first one.
+// Writes the second path of a call, after the first one.
 fn write_second_path<D: BlockDev, T: Translate>(
     out: &mut String,
     machine: &Machine<D, T>,
@@ -268,14 +268,14 @@ fn write_second_path<D: BlockDev, T: Translate>(
     write_string(out, machine, asked.pid, path, MOST_PATH)
 }
 
-// How a file is opened, behind its path.
+// Writes how a file is opened, after its path.
 fn write_opening(out: &mut String, asked: &Asked) -> Result<(), AllocError> {
     let [_, flags, ..] = asked.arguments;
     out.push_str(", ")?;
     write_flags(out, flags)
 }
 
-// The numbers of a device, behind its path.
+// Writes the numbers of a device, after its path.
 fn write_device(out: &mut String, asked: &Asked) -> Result<(), AllocError> {
     let [_, major, minor, ..] = asked.arguments;
     let (major, minor) = (short(major), short(minor));
@@ -309,7 +309,7 @@ fn write_unknown(out: &mut String, asked: &Asked) -> Result<(), AllocError> {
     write_next_address(out, third)
 }
 
-// The arguments of fstat: a descriptor, and where what is told goes.
+// Writes the arguments of fstat: a descriptor, and where the file's status goes.
 fn write_stat(out: &mut String, asked: &Asked) -> Result<(), AllocError> {
     let [descriptor, address, ..] = asked.arguments;
     write_int(out, descriptor)?;
@@ -335,7 +335,7 @@ pub fn count_written(asked: &Asked) -> Option<u64> {
     }
 }
 
-/// Writes the arguments of a call; what it fills in is told where its answer is known.
+/// Writes the arguments of a call; what it fills in is written where its answer is known.
 pub fn describe<D: BlockDev, T: Translate>(
     text: &mut CallText,
     machine: &Machine<D, T>,

@@ -4,7 +4,7 @@ use causes::{Fault, Why};
 use tracetext::lines::{Detail, FaultText};
 use unixmodel::trap::Cause;
 
-// What the access is called that a cause is about.
+// The word for the access that a cause is about.
 fn access_of(cause: Cause) -> &'static str {
     match cause {
         Cause::InstructionMisaligned => "jump",
@@ -17,7 +17,7 @@ fn access_of(cause: Cause) -> &'static str {
     }
 }
 
-// Why a page that is there may not be accessed so.
+// Why a page that is there may not be accessed in this way.
 fn closed_to(cause: Cause) -> &'static str {
     match cause {
         Cause::InstructionPageFault => " from a page that isn't executable",
@@ -38,7 +38,7 @@ fn barred(cause: Cause, why: Why) -> &'static str {
     }
 }
 
-// Why the access isn't allowed that a cause is about.
+// Why the access that a cause is about isn't allowed.
 fn reason_of(cause: Cause, why: Why) -> &'static str {
     match cause {
         Cause::InstructionMisaligned => " to what is no multiple of 4",

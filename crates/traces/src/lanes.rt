@@ -15,7 +15,7 @@ pub enum Doing {
     Runs,
     /// It is in user state, and has not the hart.
     Rests,
-    /// It waits in a call, which has read or written so many bytes so far.
+    /// It waits in a call, which has read or written this many bytes so far.
     Waits(u64),
     /// It has ended.
     Ended,
@@ -88,7 +88,7 @@ impl Lane {
     }
 }
 
-/// The place of a process among others; `None` where it isn't there.
+/// The index of a process among others; `None` where it isn't there.
 pub fn place_of(lanes: &[Lane], pid: u32) -> Option<usize> {
     lanes.iter().position(|lane| lane.pid == pid)
 }

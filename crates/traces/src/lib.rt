@@ -1,7 +1,7 @@
 //! Traces of what a machine does: text in strace's manner, spans in Chrome's JSON, commits in Spike's form, and lines
 //! of JSON.
 //!
-//! A tracer looks on while a machine is given events, and writes as it goes: what it keeps is bounded by the processes,
+//! A tracer watches a machine that is given events, and writes as it goes: what it keeps is bounded by the processes,
 //! pipes and open files that a machine has. It changes nothing of the machine, and goes on where a sink fails.
 #![tactic(auto)]
 

@@ -2,7 +2,7 @@
 
 use arrayvec::ArrayVec;
 
-/// The most writes of which a pipe tells whose bytes are whose; those of further ones have no arrow.
+/// The most writes of a pipe whose bytes are kept apart; those of further ones have no arrow.
 const MOST_WRITES: usize = 16;
 
 /// The bytes of a write that nobody has read.
@@ -37,7 +37,7 @@ impl PipeTrack {
         self.puts.clear();
     }
 
-    /// So many bytes were put.
+    /// Notes that `count` bytes were put.
     pub fn put(&mut self, count: usize, arrow: Option<(u64, u32)>) {
         self.level = self.level.saturating_add(count);
         if self.puts.try_push(Put { left: count, arrow }).is_err()
@@ -48,7 +48,7 @@ impl PipeTrack {
         }
     }
 
-    // Takes bytes of the oldest write, so many at most: how many, and the write, if it was the last of them.
+    // Takes at most `count` bytes of the oldest write. Returns how many, and the write, if they were its last.
     fn take_oldest(&mut self, count: usize) -> (usize, Option<Put>) {
         let Some(oldest) = self.puts.first_mut() else {
             return (count, None);
@@ -61,7 +61,7 @@ impl PipeTrack {
         (taken, Some(self.puts.remove(0)))
     }
 
-    /// So many bytes were taken: the writes of which the last byte was.
+    /// Notes that `count` bytes were taken, and returns the writes whose last byte was among them.
     pub fn take(&mut self, count: usize) -> ArrayVec<Put, MOST_WRITES> {
         self.level = self.level.saturating_sub(count);
         let mut read = ArrayVec::new();

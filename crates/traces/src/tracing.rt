@@ -55,7 +55,7 @@ pub struct Tracer<S> {
     alloc: Global,
     pen: Pen<S>,
     wanted: Wanted,
-    // How many events have passed: where one of spans stands in time.
+    // How many events have passed, which is the time in spans.
     at: u64,
     is_begun: bool,
     // Whether the last event that is shown has passed.
@@ -81,7 +81,7 @@ fn answer_of(seen: &Seen) -> i64 {
     seen.registers[10].cast_signed()
 }
 
-// What a process asks for that is about to make a call.
+// What a process asks for when it is about to make a call.
 fn asked_of(seen: &Seen, at: u64) -> Asked {
     let registers = &seen.registers;
     Asked {
@@ -108,7 +108,7 @@ fn empty_pipes(alloc: Global) -> Result<Vec<PipeTrack>, AllocError> {
     Ok(pipes)
 }
 
-// Places for all processes and pipes, with no process so far.
+// Tables for all processes and pipes, with no process so far.
 fn empty_tables(alloc: Global) -> Result<(Vec<Lane>, Vec<PipeTrack>), AllocError> {
     let pipes = empty_pipes(alloc)?;
     Ok((Vec::with_capacity(alloc, MOST_PROCESSES)?, pipes))
@@ -211,8 +211,8 @@ impl<S: Sinks + Drop> Tracer<S> {
         }
     }
 
-    // What the process does whose next instruction is no call. For lines of events a fault is looked for before it
-    // comes, since the descriptors are closed after it.
+    // What a process does whose next instruction is no call. For lines of events a fault is looked for before it comes,
+    // since it closes the descriptors.
     fn look_at_instruction<D: BlockDev, T: Translate>(
         &mut self,
         machine: &Machine<D, T>,
@@ -225,7 +225,7 @@ impl<S: Sinks + Drop> Tracer<S> {
         Ahead::Instruction { seen, word }
     }
 
-    // What the process asks for that is about to make a call.
+    // What a process asks for when it is about to make a call.
     fn look_at_call<D: BlockDev, T: Translate>(
         &mut self,
         machine: &Machine<D, T>,
@@ -324,7 +324,7 @@ impl<S: Sinks + Drop> Tracer<S> {
         }
     }
 
-    // What an event did that was ahead.
+    // What the event that was ahead did.
     fn follow<D: BlockDev, T: Translate>(&mut self, machine: &Machine<D, T>) {
         match self.ahead {
             Ahead::Nothing => (),

@@ -123,7 +123,7 @@ impl<S: Sinks + Drop> Tracer<S> {
         }
     }
 
-    // Writes the name of the process at a place, and those of its lanes.
+    // Writes the name of the process at an index, and those of its lanes.
     pub(super) fn draw_name(&mut self, place: usize) {
         let is_shown = self.wanted.from <= self.number() && !self.is_over;
         let Some(lane) = self.lanes.get(place) else {
@@ -138,7 +138,7 @@ impl<S: Sinks + Drop> Tracer<S> {
         self.pen.put(Form::Spans, &Lanes(pid));
     }
 
-    // The call of the process at a place that is not answered so far.
+    // The pending call of the process at an index.
     fn open_call(&self, place: usize) -> Option<Asked> {
         match self.lanes.get(place) {
             Some(lane) if !lane.has_ended() => lane.pending,
@@ -146,7 +146,7 @@ impl<S: Sinks + Drop> Tracer<S> {
         }
     }
 
-    // Writes the call of the process at a place that is not answered so far.
+    // Writes the pending call of the process at an index.
     fn draw_open(&mut self, place: usize) {
         let Some(asked) = self.open_call(place) else {
             return;

@@ -14,7 +14,7 @@ const STAT_SIZE: u64 = 24;
 /// The bytes of an instruction.
 const WORD_SIZE: u64 = 4;
 
-// How many bytes an answered call wrote, and to which address.
+// How many bytes a call that returned wrote, and to which address.
 fn written(asked: &Asked, answer: i64) -> Option<(u64, u64)> {
     let [first, second, ..] = asked.arguments;
     match asked.call()? {
@@ -52,7 +52,7 @@ impl<S: Sinks + Drop> Tracer<S> {
         }
     }
 
-    // The core that a process's instructions are told of.
+    // The core on which a process's instructions ran, as the log has it.
     fn core_of(&self, pid: u32) -> u32 {
         if self.wanted.core_is_pid { pid } else { 0 }
     }
@@ -74,7 +74,7 @@ impl<S: Sinks + Drop> Tracer<S> {
         self.pen.put(Form::Commits, &commit);
     }
 
-    // Writes what a call answered and wrote.
+    // Writes what a call returned and wrote.
     pub(super) fn log_answer<D: BlockDev, T: Translate>(
         &mut self,
         machine: &Machine<D, T>,
@@ -107,7 +107,7 @@ impl<S: Sinks + Drop> Tracer<S> {
         }
     }
 
-    // Writes the bytes that an answered call wrote.
+    // Writes the bytes that a call wrote.
     fn log_written<D: BlockDev, T: Translate>(
         &mut self,
         machine: &Machine<D, T>,
@@ -163,7 +163,7 @@ impl<S: Sinks + Drop> Tracer<S> {
         }
     }
 
-    // Writes a process whole, as one who follows it from here on needs it.
+    // Writes a process whole, as a reader who follows it from here on needs it.
     pub(super) fn log_process<D: BlockDev, T: Translate>(
         &mut self,
         machine: &Machine<D, T>,
@@ -184,7 +184,7 @@ impl<S: Sinks + Drop> Tracer<S> {
         }
     }
 
-    // The pid of the process at a place, if it has not ended.
+    // The pid of the process at an index, if it has not ended.
     fn living(&self, place: usize) -> Option<u32> {
         match self.lanes.get(place) {
             Some(lane) if !lane.has_ended() => Some(lane.pid),

@@ -5,7 +5,7 @@ use tracetext::lines::{Line, Outcome, Says, Told};
 use tracetext::{Asked, Form, Sinks};
 
 impl<S: Sinks + Drop> Tracer<S> {
-    // The number of the event at a time, where it is told.
+    // The number of the event at a time, where it is shown.
     fn stamp(&self, at: u64) -> Option<u64> {
         if self.wanted.times {
             Some(at.saturating_add(1))
@@ -41,7 +41,7 @@ impl<S: Sinks + Drop> Tracer<S> {
         self.pen.put(Form::Text, &Line { at, pid, says });
     }
 
-    // Holds a call back that was answered at once, since equal ones may follow.
+    // Holds back a call that returned at once, since equal ones may follow.
     pub(super) fn say_answered(&mut self, asked: &Asked, answer: i64) {
         if !self.shows_call(asked) || !self.pen.has(Form::Text) {
             return;

@@ -1,4 +1,4 @@
-//! What becomes of processes: who gets the hart, whose call is answered, who ends.
+//! What becomes of processes: who gets the hart, whose call returns, who ends.
 
 use super::beginning::done_of;
 use super::{Tracer, answer_of};
@@ -72,12 +72,12 @@ impl<S: Sinks + Drop> Tracer<S> {
         self.lane_mut(pid)?.pending
     }
 
-    // The call that a process waits in, which it doesn't any more.
+    // Takes the call that a process waited in.
     fn take_pending(&mut self, pid: u32) -> Option<Asked> {
         self.lane_mut(pid)?.pending.take()
     }
 
-    // The one who killed a process first.
+    // Who killed a process first.
     fn killer(&mut self, pid: u32) -> Option<u32> {
         self.lane_mut(pid)?.killer
     }
@@ -119,7 +119,7 @@ impl<S: Sinks + Drop> Tracer<S> {
         self.give_hart(None);
     }
 
-    // A call was answered, at once or in a turn.
+    // A call returned, at once or in a turn.
     pub(super) fn answered<D: BlockDev, T: Translate>(
         &mut self,
         machine: &Machine<D, T>,
@@ -144,7 +144,7 @@ impl<S: Sinks + Drop> Tracer<S> {
         self.take_effect(machine, asked, answer);
     }
 
-    // What an answered call does to processes.
+    // What a call that returned does to processes.
     fn take_effect<D: BlockDev, T: Translate>(
         &mut self,
         machine: &Machine<D, T>,
@@ -291,7 +291,7 @@ impl<S: Sinks + Drop> Tracer<S> {
         self.ends(machine, pid, -1, exit);
     }
 
-    // Draws the call that a process waits in, which isn't answered any more.
+    // Draws the call that a process waits in and that will not return.
     fn draw_unanswered<D: BlockDev, T: Translate>(&mut self, machine: &Machine<D, T>, pid: u32) {
         if let Some(asked) = self.pending(pid) {
             self.describe(machine, &asked, None);
