@@ -22,7 +22,7 @@ const COPIED: usize = 2 * 1024;
 /// How many seconds a busy machine's keyboard isn't read.
 const REST: u64 = 1;
 
-/// How many milliseconds a terminal waits at least before it answers that nothing was typed.
+/// How many milliseconds a terminal waits at least before it reports that nothing was typed.
 const MOMENT: u128 = 10;
 
 /// How many reads of nothing in a row end sooner at a terminal that is gone.
@@ -128,7 +128,7 @@ impl<'a, R: Files<File = File> + Clock + Input + Eprint + AllocGlobal> RealFiles
     }
 }
 
-// Puts a piece behind other bytes.
+// Appends a piece to other bytes.
 fn append_piece(bytes: &mut Vec<u8>, piece: &[u8]) -> Result<(), AllocError> {
     for part in piece.chunks(COPIED) {
         bytes.extend_from_slice(part)?;
@@ -136,7 +136,7 @@ fn append_piece(bytes: &mut Vec<u8>, piece: &[u8]) -> Result<(), AllocError> {
     Ok(())
 }
 
-// Puts what a reader has left behind other bytes, piece by piece, and reads again where a signal interrupts it.
+// Appends what a reader has left to other bytes, piece by piece, and reads again where a signal interrupts it.
 fn read_rest<R: Read>(reader: &mut R, piece: &mut [u8], bytes: &mut Vec<u8>) -> io::Result<()> {
     for _ in 0..u64::MAX {
         match reader.read(piece) {
@@ -149,8 +149,8 @@ fn read_rest<R: Read>(reader: &mut R, piece: &mut [u8], bytes: &mut Vec<u8>) -> 
     Err(io::Error::from(ErrorKind::TimedOut))
 }
 
-// The first bytes of a file, and how long it is: so long as it was read to its end, and else as the system says, which
-// knows the length of regular files alone.
+// The first bytes of a file, and its length: their count where it was read to its end, else the one that the system
+// gives, which knows the length of regular files alone.
 fn front<R: Files + AllocGlobal>(rt: &R, name: &str, most: usize) -> io::Result<Front>
     ensures { IfOk result (λ front. vec_len front.bytes ≤ most) }
 {
@@ -171,7 +171,7 @@ fn front<R: Files + AllocGlobal>(rt: &R, name: &str, most: usize) -> io::Result<
     Ok(Front { bytes, length })
 }
 
-// The whole of a file that begins with these bytes, and of another one the first piece.
+// The whole of a file that begins with these bytes, and of any other the first bytes, as many as these.
 fn marked<R: Files + AllocGlobal>(rt: &R, name: &str, mark: &[u8]) -> io::Result<Vec<u8>> {
     let mut file = fs::open(rt, name)?;
     let mut bytes = Vec::new(rt.alloc());
@@ -187,7 +187,7 @@ fn marked<R: Files + AllocGlobal>(rt: &R, name: &str, mark: &[u8]) -> io::Result
     Ok(bytes)
 }
 
-// Puts bytes behind those of a file.
+// Appends bytes to a file.
 fn append<R: Files>(rt: &R, name: &str, bytes: &[u8]) -> io::Result<()> {
     let mut file = OpenOptions::new().append(true).open(rt, name)?;
     file.write_all(bytes)

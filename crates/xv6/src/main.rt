@@ -37,8 +37,8 @@ fn do_job<W: Write, E: Write>(
     Ok(status)
 }
 
-/// Does the job that the process's words name. Standard output is buffered, and written out before
-/// the line that tells how the job ended.
+/// Does the job that the process's words name. Standard output is buffered, and written out before the line that says
+/// how the job ended.
 fn run(rt: &HostRuntime) -> Result<u8, AllocError> {
     let alloc = rt.alloc();
     let args = match std::env::args(rt) {
