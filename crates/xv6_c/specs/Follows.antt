@@ -10,6 +10,6 @@ use Rattle.session.specs.contracts.session.Session.{the_row as session_row}
 abbrev pub with_session : Sealed → session_row.Denot → Sealed
 with_session s t = record { ptr = s.ptr; alloc = s.alloc; session = t }
 
--- once the borrow r ends, the handle behind s holds the last value written through r
+-- once the borrow r ends, the handle that s borrows holds the last value written through r
 abbrev pub sealed_follows : MutBor Sealed → MutBor session_row.Denot → Fml
 sealed_follows s r = follows the_row session_row s.ghost_name r.ghost_name (with_session s.now)

@@ -1,4 +1,4 @@
--- What the library answers in numbers.
+-- The numbers that the library returns.
 use Rattle.std.specs.Prelude.{Err, None, Ok, Option, Result, Some, if◌then◌else◌, ℕ, ◌&&◌, ◌+◌}
 use Rattle.calls.specs.declared.halt.Halt.{Halt}
 use Rattle.calls.specs.declared.halt.Halt.TheVariants.{Console, Device, Halted, InitEnded}

@@ -1,4 +1,4 @@
--- What the exports tell.
+-- What the exports return.
 use Rattle.std.proofs.Common.{Global, Vec}
 use Rattle.std.specs.Prelude.{Bool, IsErrOf, List, Option, Result, [], length, option_map, ℕ, ◌∷◌, ◌≡◌}
 use Rattle.calls.specs.declared.halt.Halt.{Halt}
@@ -25,7 +25,7 @@ use Rattle.walks.specs.declared.WalkTold.{WalkTold}
 use Rattle.xv6_c.specs.Walked.{ShowsWalk}
 use Rattle.xv6_c.specs.declared.told.StatTold.{StatTold}
 
--- the number is that of an answer of which this is told
+-- the number is that of a result of which this holds
 abbrev pub Numbers : {X : Type 0} → (Result X Halt → Type 0) → ℕ → Type 0
 Numbers {X} Told number = (answer : Result X Halt) × (number ≡ answer_number answer) × Told answer
 
@@ -37,7 +37,7 @@ Boots image frames = (s : Session) × IsBooted image (length image ∷ []) 0 fra
 abbrev pub RefusesBy : List ℕ → ℕ → ℕ → Type 0
 RefusesBy image frames number = (why : BootFault) × (number ≡ fault_number why) × Refuses image frames why
 
--- a run of at most so many steps took these, and this is the number of its answer
+-- a run of at most `most` steps took `done`, and this is the number of its result
 abbrev pub RunsTo : Session → Session → ℕ → ℕ → ℕ → Type 0
 RunsTo old new most done number = (ran : Ran) × (done ≡ ran.steps) × (number ≡ answer_number ran.answer)
     × Runs old new most ran
@@ -70,19 +70,19 @@ abbrev pub DigestTells : Session → Session → ℕ → ℕ → Result ℕ Halt
 DigestTells old new before after answer =
     (after ≡ number_put answer before) × Looks old new (λ digest. digest ≡ digest_of old.machine.state) answer
 
--- a node is told at a place
+-- a node is put
 abbrev pub StatTells : Session → Session → ℕ → StatTold → StatTold → Result (Option Stat) Halt → Type 0
 StatTells old new number before after answer =
     (after ≡ stat_put answer before)
     × Looks old new (λ told. told ≡ option_map stat_seen (shown_stat old.machine.state number)) answer
 
--- bytes of a node are copied, and how many stands at a place
+-- bytes of a node are copied, and how many is put
 abbrev pub ReadTells : Session → Session → ℕ → ℕ → List ℕ → List ℕ → ℕ → ℕ → Result ℕ Halt → Type 0
 ReadTells old new number at before after count counted answer =
     (counted ≡ number_put answer count) × Looks old new (ReadsAt old.machine.state number at before after) answer
     × (IsErrOf answer Halted → after ≡ before)
 
--- the image is copied, and its length stands at a place
+-- the image is copied, and its length is put
 abbrev pub SaveTells : Session → List ℕ → List ℕ → ℕ → ℕ → Result (Vec ℕ Global) Halt → Type 0
 SaveTells old before after length told answer =
     (after ≡ image_put answer before) × (told ≡ length_put answer length) × Saves old.machine answer

@@ -1,5 +1,6 @@
 //! The machine for C. A pointer and a length are a slice, and a handle is a pointer that `xv6_raw_boot` made and that
-//! `xv6_raw_close` or `xv6_raw_save` ends; nothing checks that. Numbers are answers: 0, or why the machine stops.
+//! `xv6_raw_close` or `xv6_raw_save` ends; nothing checks that. What an event or a look returns is 0, or why the
+//! machine stops.
 #![tactic(auto)]
 
 ghost use Rattle.std.specs.Prelude.{◌≡◌, ◌+◌, ◌≢◌, drop, is_some, length, min, replicate};
@@ -96,7 +97,7 @@ pub extern "C" fn xv6_raw_close(machine: Sealed) {
     let _session = into_parts(machine).into_box();
 }
 
-/// Takes so many steps.
+/// Takes `times` steps.
 #[unsafe(no_mangle)]
 pub extern "C" fn xv6_raw_steps(machine: &mut Sealed, times: u32) -> u32
     ensures { Numbers (Answers machine.old.session machine.new.session (replicate times Step)) result }
@@ -104,7 +105,7 @@ pub extern "C" fn xv6_raw_steps(machine: &mut Sealed, times: u32) -> u32
     of_answer(get_mut(machine).steps(times))
 }
 
-/// Takes at most so many steps, while a process runs or is ready. How many were taken stands at `done`.
+/// Takes at most `most` steps, while a process runs or is ready, and puts how many at `done`.
 #[unsafe(no_mangle)]
 pub extern "C" fn xv6_raw_run(machine: &mut Sealed, most: u32, done: &mut u32) -> u32
     ensures { RunsTo machine.old.session machine.new.session most done.new result }
@@ -147,7 +148,7 @@ pub extern "C" fn xv6_raw_key(machine: &mut Sealed, byte: u8) -> u32
     of_answer(get_mut(machine).key(byte))
 }
 
-/// Takes the oldest of the console's bytes, as many as there is room for, and tells how many.
+/// Takes the oldest of the console's bytes, as many as there is room for, and returns how many.
 #[unsafe(no_mangle)]
 pub extern "C" fn xv6_raw_console(machine: &mut Sealed, out: &mut [u8]) -> usize
     ensures count { result ≡ min (length (console_of machine.old.session)) (length out.old) }
@@ -194,7 +195,7 @@ pub extern "C" fn xv6_raw_next_pid(machine: &mut Sealed, after: u32) -> u32
     of_pid(get_mut(machine).machine().next_pid(after))
 }
 
-/// Tells of a process at `out`: 0, or 1 where there is none.
+/// Puts a process at `out`: 0, or 1 where there is none.
 #[unsafe(no_mangle)]
 pub extern "C" fn xv6_raw_process(machine: &mut Sealed, pid: u32, out: &mut ProcessTold) -> u32
     ensures told { Puts (process_of machine.old.session.machine.state pid) out.old out.new result }
@@ -261,9 +262,8 @@ pub extern "C" fn xv6_raw_fault(machine: &mut Sealed, pid: u32, out: &mut FaultT
     put(get_mut(machine).fault(pid), out)
 }
 
-/// Copies a page of a process, as much as there is room for. 0: there is none; else 1, and what a program may do with
-/// it:
-/// 2 read, 4 write, 8 execute.
+/// Copies a page of a process, as much as there is room for. 0: there is none; else the sum of 1 and what a program may
+/// do with it: 2 read, 4 write, 8 execute.
 #[unsafe(no_mangle)]
 pub extern "C" fn xv6_raw_page(machine: &mut Sealed, pid: u32, page: u64, out: &mut [u8]) -> u32
     ensures told { PageTells (shown_page machine.old.session.machine.state pid page) out.old out.new result }
@@ -304,7 +304,7 @@ pub extern "C" fn xv6_raw_digest(machine: &mut Sealed, out: &mut u64) -> u32
     put_number(get_mut(machine).digest(), out)
 }
 
-/// Tells of a node of the disk at `out`.
+/// Puts a node of the disk at `out`.
 #[unsafe(no_mangle)]
 pub extern "C" fn xv6_raw_stat(machine: &mut Sealed, number: usize, out: &mut StatTold) -> u32
     ensures { Numbers (StatTells machine.old.session machine.new.session number out.old out.new) result }
@@ -312,7 +312,8 @@ pub extern "C" fn xv6_raw_stat(machine: &mut Sealed, number: usize, out: &mut St
     put_stat(get_mut(machine).stat(number), out)
 }
 
-/// Reads a node of the disk from a place on, as much as there is room for. How many bytes were read stands at `count`.
+/// Reads a node of the disk from offset `at` on, as much as there is room for, and puts how many bytes it read at
+/// `count`.
 #[unsafe(no_mangle)]
 pub extern "C" fn xv6_raw_read(
     machine: &mut Sealed,
@@ -328,7 +329,7 @@ pub extern "C" fn xv6_raw_read(
 }
 
 /// Ends a machine and frees its memory. It copies the bytes of its disk, which denote the files that are left, as many
-/// as there is room for; how many they are stands at `bytes`.
+/// as there is room for, and puts how many there are at `bytes`.
 #[unsafe(no_mangle)]
 pub extern "C" fn xv6_raw_save(machine: Sealed, out: &mut [u8], bytes: &mut usize) -> u32
     ensures { Numbers (SaveTells machine.session out.old out.new bytes.old bytes.new) result }

@@ -1,4 +1,4 @@
-//! Answers as numbers.
+//! Results as numbers.
 ghost use Rattle.std.specs.Prelude.{◌≡◌, if◌then◌else◌};
 ghost use Rattle.session.specs.Told.{flag};
 ghost use Rattle.xv6_c.specs.Numbers.{answer_number, fault_number, halt_number, marks_number, or_zero};

@@ -1,4 +1,4 @@
-//! Answers that go where a caller wants them.
+//! Results that are put where a caller wants them.
 ghost use Rattle.std.specs.Prelude.{◌≡◌};
 ghost use Rattle.xv6_c.specs.Numbers.{answer_number};
 ghost use Rattle.xv6_c.specs.Puts.{Puts, image_put, length_put, number_put, stat_put};

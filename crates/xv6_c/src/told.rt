@@ -1,4 +1,4 @@
-//! What is told of a node, as plain numbers.
+//! A node, as plain numbers.
 ghost use Rattle.std.specs.Prelude.{◌≡◌};
 ghost use Rattle.xv6_c.specs.Numbers.{stat_told};
 
@@ -16,7 +16,7 @@ pub struct StatTold {
     pub size: u32,
 }
 
-/// What a node is told as.
+/// A node, as plain numbers.
 pub fn of_stat(stat: Option<Stat>) -> StatTold
     ensures { result ≡ stat_told stat }
 {
