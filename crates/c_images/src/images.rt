@@ -91,8 +91,8 @@ pub fn assemble(alloc: Global, text: &[u8], out: &mut [u8], told: &mut Assembled
 }
 
 /// Assembles a text as other assemblers take it: copies as many bytes of the program's file, and of the report, as
-/// there is room for, and puts how many they have. 0: the report has the lines that `assemble` takes; 600: it has what is
-/// wrong.
+/// there is room for, and puts how many they have. 0: the report has the lines that `assemble` takes; 600: it has what
+/// is wrong.
 pub fn expand(
     alloc: Global,
     text: &[u8],

@@ -1,7 +1,7 @@
 -- What the operations on numbers give.
 -- From gdb's manual, its appendix on agent expressions.
-use Rattle.std.specs.Prelude.{None, Option, Some, bit_and, bit_or, bit_xor, if◌then◌else◌, int_div, int_rem, min, nat_lt}
-use Rattle.std.specs.Prelude.{ℕ, ◌%◌, ◌*◌, ◌-◌, ◌/◌, ◌==◌, ◌^◌}
+use Rattle.std.specs.Prelude.{None, Option, Some, bit_and, bit_or, bit_xor, if◌then◌else◌, int_div, int_rem, min}
+use Rattle.std.specs.Prelude.{nat_lt, ℕ, ◌%◌, ◌*◌, ◌-◌, ◌/◌, ◌==◌, ◌^◌}
 use Rattle.std.specs.Int.{cast_signed, w64}
 use Rattle.conditions.specs.declared.operation.Binary.{Binary}
 use Rattle.conditions.specs.declared.operation.Binary.TheVariants.{Add, And, DivideSigned, DivideUnsigned, Equal}

@@ -1,4 +1,5 @@
-//! How code spells operations: a byte for each, and after it, where it has a number, that number, its highest byte first.
+//! How code spells operations: a byte for each, and after it, where it has a number, that number, its highest byte
+//! first.
 ghost use Rattle.std.specs.Prelude.{◌≤◌, ◌+◌, IfSome, length};
 
 use crate::operation::{Binary, Operation, Unary, Width};

@@ -1,5 +1,6 @@
 -- What a transcript holds after more events.
-use Rattle.std.proofs.Common.{◌≡◌, ◌∙◌, ◌+◌, ◌++◌, ℕ, List, [], ◌∷◌, Bool, true, false, ap, append-nil, append_assoc, replicate, sym}
+use Rattle.std.proofs.Common.{◌≡◌, ◌∙◌, ◌+◌, ◌++◌, ℕ, List, [], ◌∷◌, Bool, true, false, ap, append-nil, append_assoc}
+use Rattle.std.proofs.Common.{replicate, sym}
 use Rattle.std.proofs.lemmas.Grind.{flat_map-append}
 use Rattle.std.proofs.lemmas.List.{replicate-append-replicate}
 use Rattle.events.specs.Records.{Records}
@@ -17,7 +18,8 @@ with-last rows last =
 
 -- a row that is added to
 pub last-more : (is_lost : Bool) (rows : List Row) (old new : Row) (events : List Event)
-    → row_events new ≡ row_events old ++ events → Records (events_in is_lost rows old) (events_in is_lost rows new) events
+    → row_events new ≡ row_events old ++ events
+    → Records (events_in is_lost rows old) (events_in is_lost rows new) events
 last-more true rows old new events more = tt
 last-more false rows old new events more =
     with-last rows new ∙ ap (λ es. rows_events rows ++ es) more

@@ -1,6 +1,7 @@
 -- What the rows of a transcript say, read as the lines of a script.
 use Rattle.std.proofs.Common.{◌≡◌, ◌∙◌, ◌+◌, ◌*◌, ◌<◌, ◌≤◌, ◌++◌, ◌%◌, ◌/◌, ℕ, List, [], ◌∷◌, refl, length, map, subst}
-use Rattle.std.proofs.Common.{sym, ap, arith, false, true, append_assoc, append-nil, get_or, drop, replicate, Some, None, Option, Bool, inl, inr}
+use Rattle.std.proofs.Common.{sym, ap, arith, false, true, append_assoc, append-nil, get_or, drop, replicate, Some}
+use Rattle.std.proofs.Common.{None, Option, Bool, inl, inr}
 use Rattle.std.specs.Prelude.{◌==◌, slice_index, suc, zero, ⊤, IfSome, ◌⊎◌}
 use Rattle.std.specs.Fmt.{decimal, digit_glyph}
 use Rattle.std.specs.List.{All, slice_index_or}
@@ -104,7 +105,8 @@ says-row (row.Keys keys) (command.Tick m) within h = absurd (omega (arith, first
 says-row (row.Keys keys) (command.Keys typed) within h =
     let read = subst (λ digits. IsHexOf digits typed.items)
     (sym (after-five _ _ _ _ _ (bytes_text keys.items) h.0 h.1)) h.2 in
-    ap (map event.Key) (one-reading (bytes_text keys.items) typed.items keys.items read (keys-written keys.items within.0))
+    ap (map event.Key) (one-reading (bytes_text keys.items) typed.items keys.items read
+    (keys-written keys.items within.0))
 says-row (row.Keys keys) (command.Type text) within h = absurd (omega (arith, first _ _ _ _ h))
 
 -- ---- a line says something
@@ -163,14 +165,18 @@ no-end-bytes (b ∷ bytes) = (
 )
 
 no-end-row : (r : Row) → IsRow r → NoEnd (row_line r)
-no-end-row (row.Steps n) within = (refl, (refl, (refl, (refl, (refl, no-end-digits (decimal n) (counted n within).numeral.1)))))
-no-end-row (row.Ticks n) within = (refl, (refl, (refl, (refl, (refl, no-end-digits (decimal n) (counted n within).numeral.1)))))
+no-end-row (row.Steps n) within =
+    (refl, (refl, (refl, (refl, (refl, no-end-digits (decimal n) (counted n within).numeral.1)))))
+no-end-row (row.Ticks n) within =
+    (refl, (refl, (refl, (refl, (refl, no-end-digits (decimal n) (counted n within).numeral.1)))))
 no-end-row (row.Keys keys) within = (refl, (refl, (refl, (refl, (refl, no-end-bytes keys.items)))))
 
-lines-more : (r : Row) (rows : List Row) → IsRow r → lines_of (rows_text (r ∷ rows)) ≡ row_line r ∷ lines_of (rows_text rows)
+lines-more : (r : Row) (rows : List Row) → IsRow r
+    → lines_of (rows_text (r ∷ rows)) ≡ row_line r ∷ lines_of (rows_text rows)
 lines-more r rows fits =
     ap lines_of (append_assoc (row_line r) (10 ∷ []) (rows_text rows))
-    ∙ slice_split_at (λ byte. byte == 10) (row_line r) 10 (rows_text rows) (no-end-all (row_line r) (no-end-row r fits)) refl
+    ∙ slice_split_at (λ byte. byte == 10) (row_line r) 10 (rows_text rows)
+    (no-end-all (row_line r) (no-end-row r fits)) refl
 
 -- ---- a text
 
@@ -221,7 +227,8 @@ speaks (r ∷ rows) i fit =
     (speaks-on (row_line r) (lines_of (rows_text rows)) (row-says r (head-fits r rows fit))
     (λ k. speaks rows k (tail-fits r rows fit)) i)
 
-no-fault : (rows : List Row) → All IsRow rows → (told : TextFault) → IsFaultOf IsCommand (lines_of (rows_text rows)) told
+no-fault : (rows : List Row) → All IsRow rows → (told : TextFault)
+    → IsFaultOf IsCommand (lines_of (rows_text rows)) told
     → told ≡ fault.NoMemory
 no-fault rows fit (fault.Line number) h =
     let one = speaks rows h.index fit h.spoken in

@@ -1,5 +1,6 @@
 -- The rows of a transcript: what they stand for, and how they are written.
-use Rattle.std.specs.Prelude.{List, [], codes, false, flat_map, length, map, replicate, ℕ, ◌%◌, ◌++◌, ◌/◌, ◌∷◌, ◌<◌, ◌≤◌}
+use Rattle.std.specs.Prelude.{List, [], codes, false, flat_map, length, map, replicate, ℕ, ◌%◌, ◌++◌, ◌/◌, ◌∷◌, ◌<◌}
+use Rattle.std.specs.Prelude.{◌≤◌}
 use Rattle.std.specs.Fmt.{decimal, digit_glyph}
 use Rattle.std.specs.List.{All}
 use Rattle.events.specs.declared.row.Row.{Row}

@@ -91,8 +91,8 @@ pub extern "C" fn xv6_raw_asm(
 }
 
 /// Assembles a text as other assemblers take it: copies as many bytes of the program's file, and of the report, as
-/// there is room for, and puts how many they have. 0: the report has the lines that `xv6_raw_asm` takes; 600: it has what is
-/// wrong.
+/// there is room for, and puts how many they have. 0: the report has the lines that `xv6_raw_asm` takes; 600: it has
+/// what is wrong.
 #[unsafe(no_mangle)]
 pub extern "C" fn xv6_raw_as(
     alloc: Global,

@@ -3,4 +3,5 @@ use Rattle.events.proofs.transcript.TranscriptRecord.steps.Goals as goal
 
 pub returns-in-Steps : goal.returns-in-Steps
 returns-in-Steps c =
-    rw (← c.self.view_is) (more-steps c.self.inside.is_lost c.self.inside.rows.items _ c.in-Steps.steps c.args.count c.in-Steps.is)
+    rw (← c.self.view_is) (more-steps c.self.inside.is_lost c.self.inside.rows.items _ c.in-Steps.steps c.args.count
+    c.in-Steps.is)

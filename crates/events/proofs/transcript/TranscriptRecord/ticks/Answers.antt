@@ -3,4 +3,5 @@ use Rattle.events.proofs.transcript.TranscriptRecord.ticks.Goals as goal
 
 pub returns-in-Ticks : goal.returns-in-Ticks
 returns-in-Ticks c =
-    rw (← c.self.view_is) (more-ticks c.self.inside.is_lost c.self.inside.rows.items _ c.in-Ticks.ticks c.args.count c.in-Ticks.is)
+    rw (← c.self.view_is) (more-ticks c.self.inside.is_lost c.self.inside.rows.items _ c.in-Ticks.ticks c.args.count
+    c.in-Ticks.is)
