@@ -170,11 +170,12 @@ measure-gate:
 check-live: $(IMAGE)
 	trials/terminal.py $(PROGRAM) $(IMAGE)
 
-# Tries the library: C under valgrind, Python, and 50 random sessions beside the program.
+# Tries the library: C under valgrind and on small stacks, Python, and 100 random sessions beside the program.
 check-library: $(IMAGE) library
 	tools/check_library.sh $(LIBRARY) $(PROGRAM) $(IMAGE)
 
-# Uses the page in Chromium and Firefox without a window, compares it with the program, and takes pictures of its views.
+# Uses the page in Chromium and Firefox without a window, compares it with the program, and its views with kept pictures.
+# KEEP=1 keeps new ones.
 check-web: out/web/checked.html
 	web/check.py $< $(PROGRAM) out/web/xv6.img out/web/pictures
 
@@ -254,10 +255,10 @@ user-c/picolibc/%: always
 user-c/lua user-c/duk: user-c/%: always
 	$(MAKE) -C user-c/picolibc $*
 
-# A session at the shell of an image of them, as make live.
+# A session at the shell of an image of them, as make live. Faults name functions and lines of programs whose NAME.elf is made.
 live-c: user-c | program
 	$(MAKE) -C user-c ../$(IMAGE_C) XV6=$(abspath $(PROGRAM))
-	@tools/live.sh $(PROGRAM) $(IMAGE_C) out/last.script
+	@$(if $(wildcard out/user-c/*.elf),SYMBOLS=out/user-c) tools/live.sh $(PROGRAM) $(IMAGE_C) out/last.script
 
 # Compiles them by gcc and clang, and tries them beside the programs in assembly.
 # selftest passes at each pace of a clock, and the file that the gate runs is what the compiler gives. It needs Debian's packages

@@ -8,6 +8,8 @@ import sys
 import tempfile
 import time
 
+if len(sys.argv) != 3 or "--help" in sys.argv:
+    sys.exit(__doc__)
 FOLDER, PROGRAM = (os.path.abspath(path) for path in sys.argv[1:3])
 HERE = os.path.dirname(os.path.abspath(__file__))
 STEPS = 20_000_000

@@ -17,6 +17,7 @@ import json
 import os
 import pathlib
 import re
+import shutil
 import subprocess
 import sys
 import tempfile
@@ -78,7 +79,8 @@ def looking_on(place):
     took = [it.seconds for it in compare([job.command(place) for job in jobs], TURNS)]
     lines = [[f"`{' '.join(job.by)}`", f"{seconds:.3f}", f"{seconds / took[0]:.2f}"] for job, seconds in zip(jobs, took)]
     text = "A run of 10,000,000 steps with 1000 calls: seconds of processor time, the least of "
-    return text + f"{TURNS} turns, and the ratio to the run that nobody looks on at:\n\n" + table(["by", "seconds", "ratio"], lines)
+    text += f"{TURNS} turns, and the ratio\nto the run that nobody looks on at:\n\n"
+    return text + table(["by", "seconds", "ratio"], lines)
 
 
 # ---- units
@@ -141,16 +143,63 @@ def tools(place):
     return text + table(["blocks", "`mkfs`", "`check`", "`run` of 100 steps", "with `--save`"], lines)
 
 
-def library():
-    """The library and the page, where they are made."""
-    lines = []
-    folder = TOP / "out" / "library"
+# What was measured on 2026-11-26, before the library made images and ran to events, and before the page had views, times and exercises:
+# size, boot, million steps a second.
+BEFORE = {
+    "`libxv6.a`, from C": ["463 kB", "3.1 ms", "85"],
+    "`libxv6.so`, from Python": ["414 kB", "2.8 ms", "83"],
+    "`xv6 run --tlb`": ["1827 kB", "5.3 ms", "107"],
+    "`xv6.html`, in Chromium": ["165 kB", "42 ms", "34"],
+}
+LIBRARY_LINE = r"^%s: boot ([\d.]+) ms, [\d.]+ ns a step, (\d+) million steps a second$"
+PAGE_LINES = [
+    r"first prompt (\d+) ms",
+    r"compiled in ([\d.]+) ms; first boot in ([\d.]+) ms, best of 100 ([\d.]+)",
+    r"(\d+) steps replayed in (\d+) ms with (\d+) copies kept; back by one in ([\d.]+) ms",
+    r"processor: ([\d.]+); with calls noted ([\d.]+);",
+]
+
+
+def told(words, *patterns):
+    """The numbers that a script prints, by patterns."""
+    said = subprocess.run([sys.executable, *map(str, words)], cwd=TOP, capture_output=True, text=True)
+    if said.returncode:
+        raise Failed(f"{words[0]}: {said.stderr}")
+    return [re.search(pattern, said.stdout, re.M).groups() for pattern in patterns]
+
+
+def size_of(path):
+    return f"{path.stat().st_size // 1000} kB"
+
+
+def page_row(page, place):
+    """The page's size, boot and steps, and what else there is to say of it."""
+    numbers = told(["web/measure.py", page, place.xv6, page.parent / "xv6.img"], *PAGE_LINES)
+    [prompt], (compiled, first, best), (count, whole, copies, back), (rate, noted) = numbers
+    more = f"""
+
+The page's first prompt comes {prompt} ms after the load begins; its module is compiled in {compiled} ms.
+A later boot takes {best} ms.
+{int(count):,} steps are replayed in {whole} ms, and back by one of them takes {back} ms at most, with {copies} copies kept.
+With each call noted it makes {noted} million steps a second."""
+    return [size_of(page), f"{first} ms", f"{float(rate):.0f}"], more
+
+
+def library(place):
+    """The library and the page, where they are made: sizes, boots and steps, and the old ones."""
+    folder, page = TOP / "out" / "library", TOP / "out" / "web" / "xv6.html"
+    now, more = {}, ""
     if (folder / "libxv6.so").exists():
-        lines += [[name, f"{(folder / name).stat().st_size // 1000} kB"] for name in ("libxv6.a", "libxv6.so")]
-    for name in ("crates/xv6/out/xv6", "out/web/xv6.html"):
-        if (TOP / name).exists():
-            lines.append([pathlib.Path(name).name, f"{(TOP / name).stat().st_size // 1000} kB"])
-    return "`bench/library.py` times the library from C and from Python beside the program, `web/measure.py` the page:\n\n" + table(["file", "size"], lines)
+        files = {"C": folder / "libxv6.a", "Python": folder / "libxv6.so", "xv6 run --tlb": place.xv6}
+        patterns = [LIBRARY_LINE % re.escape(name) for name in files]
+        for key, file, (boot, rate) in zip(BEFORE, files.values(), told(["bench/library.py", folder, place.xv6], *patterns)):
+            now[key] = [size_of(file), f"{boot} ms", rate]
+    if page.exists() and any(map(shutil.which, ("chromium", "chromium-browser", "google-chrome"))):
+        now[list(BEFORE)[-1]], more = page_row(page, place)
+    head = ["", "size", "boot of 2 MB", "million steps a second", "old size", "old boot", "old steps"]
+    text = "`bench/library.py` times the library from C and from Python beside the program, `web/measure.py` the page.\n"
+    text += "The old ones are of 2026-11-26, when the library made no images, and the page had no views, times and exercises.\n\n"
+    return text + table(head, [[name, *numbers, *BEFORE[name]] for name, numbers in now.items()]) + more
 
 
 # ---- lines, and times that others noted
@@ -268,7 +317,7 @@ def main():
         place = compile_plain(Place(pathlib.Path(folder), given.program.resolve()))
         makers = {"Steps": lambda: steps(place), "Looking on": lambda: looking_on(place),
                   "Calls and other units": lambda: units(place), "Tools": lambda: tools(place),
-                  "Sizes": library, "Lines": lambda: counted, "Gate and build": lambda: noted_text}
+                  "Sizes": lambda: library(place), "Lines": lambda: counted, "Gate and build": lambda: noted_text}
         parts = {}
         for name, make in makers.items():
             if given.only and given.only not in name:

@@ -64,6 +64,9 @@ def runs(rubric, folder, scratch):
 
 
 def main():
+    if "--help" in sys.argv[1:]:
+        print(__doc__.strip())
+        return 0
     cases, verdicts, names = [], [], []
     exercises = sorted((HERE / "first_week").glob("*/rubric.toml"))
     for name, folder in check.folders([path.parent.name for path in exercises]).items():

@@ -16,13 +16,22 @@ touch "$results/list"
 for folder in "$submissions"/*/; do basename "$folder"; done | LC_ALL=C sort |
     grep -Fxv -f "$results/list" >> "$results/list" || :
 
-# What a grader writes meanwhile lies in memory if there is room: some megabytes, which are gone within seconds.
+# What graders write meanwhile lies in memory if there is room: some megabytes, which are gone within seconds. What a
+# killed one has left goes with the next call.
 if [ -z "${TMPDIR:-}" ] && [ "$(df -kP /dev/shm 2> /dev/null | awk 'NR == 2 { print $4 }')0" -gt 20000000 ]; then
-    export TMPDIR=/dev/shm
+    TMPDIR=/dev/shm/class-$(realpath "$results" | cksum | cut -d ' ' -f 1)
+    rm -rf "$TMPDIR"
+    mkdir -m 700 "$TMPDIR"
+    export TMPDIR
+    trap 'rm -rf "$TMPDIR"' EXIT
 fi
 
+# The grader is compiled once, and Python called by its own name: the one on the path may be a script that finds it.
+compiling='import py_compile, sys; py_compile.compile(*sys.argv[1:], doraise=True); print(sys.executable)'
+python=$(python3 -c "$compiling" "$here/grade.py" "$results/grade.pyc")
+
 # parallel's own status is the number of jobs that failed. The grader's is 0 if a result was written.
-parallel -q --will-cite --joblog "$results/joblog" --resume-failed "$@" \
-    python3 "$here/grade.py" --quiet --gradescope "$results/{}.json" "$rubric" "$submissions/{}" :::: "$results/list" \
+parallel -q --will-cite --joblog "$results/joblog" --resume-failed "$@" "$python" "$results/grade.pyc" \
+    --quiet --gradescope "$results/{}.json" "$rubric" "$submissions/{}" :::: "$results/list" \
     >> "$results/log" || echo "$? submissions have no result: $results/joblog has their statuses" >&2
 python3 "$here/merge.py" "$results"

@@ -145,6 +145,7 @@ CALLS_SHOWN = 8
 WAITING_SHOWN = 12
 PROCESSES_SHOWN = 20
 SCRIPT_STEPS = 20_000  # how far the page goes of a run that prints without end
+SHARED_CALLS = 10_000  # the most calls of a run that is kept for other tests
 LOOKED_STEPS = 200_000  # how many steps a wait may take of a run that is looked at at once
 EXPLAINED_STEPS = 200_000  # how far a run that does not end is looked at
 NAME_LETTERS = "abcdefghijklmnopqrstuvwxyz"
@@ -446,7 +447,35 @@ def module_of(path: pathlib.Path) -> types.ModuleType:
     return module
 
 
+def names_in(code: types.CodeType) -> set[str]:
+    """The names that a piece of code has, with those of the functions and lists in it."""
+    inner = [names_in(part) for part in code.co_consts if isinstance(part, types.CodeType)]
+    return set(code.co_names).union(*inner)
+
+
+def names_asked(function: Callable[..., Any]) -> set[str]:
+    """The names that a function has, with those of the functions of its file that it calls, and so on."""
+    names: set[str] = set()
+    todo: list[Any] = [function]
+    while todo:
+        asked = todo.pop()
+        if isinstance(asked, types.FunctionType) and asked.__module__ == function.__module__:
+            more = names_in(asked.__code__) - names
+            names |= more
+            todo += [asked.__globals__.get(name) for name in more]
+    return names
+
+
 Content = Union[str, bytes, bool]
+
+
+class Depth(enum.IntEnum):
+    """How closely a run is looked at."""
+
+    CONSOLE = enum.auto()  # what it prints and leaves
+    REPORT = enum.auto()  # the faults and statuses of its processes, too
+    ENDS = enum.auto()  # what they hold as they end, too
+    CALLS = enum.auto()  # each call, too
 
 
 @dataclass(frozen=True)
@@ -537,16 +566,33 @@ class Test:
         """Whether a machine is booted for it; else only its function looks at the folder."""
         return bool(self.typed or self.play or self.script)
 
-    @property
-    def wants_look(self) -> bool:
-        """Whether it says something of its processes."""
-        return bool(self.status or self.faults or self.wants_trace)
+    @functools.cached_property
+    def asked(self) -> set[str]:
+        """The names by which its function may ask for something of a run that takes time. If it asks in another way it
+        gets that, too, by one more run."""
+        return names_asked(self.check) & {"trace", "ticks", "file", "saved"} if self.check and self.runs else set()
 
     @property
-    def wants_trace(self) -> bool:
-        """Whether it says more of them than which faults and statuses they have, or may do so by its function."""
-        says = self.ticks or self.open_at_exit or not self.unwaited or self.calls or self.no_calls
-        return bool(says or (self.check and self.runs))
+    def wants_files(self) -> bool:
+        """Whether it looks at files that a run leaves."""
+        return bool(self.left or self.asked & {"file", "saved"})
+
+    @property
+    def depth(self) -> Depth:
+        """How closely each of its runs is looked at."""
+        if self.ticks or self.calls or self.no_calls or self.asked & {"trace", "ticks"}:
+            return Depth.CALLS
+        if self.open_at_exit or not self.unwaited:
+            return Depth.ENDS
+        return Depth.REPORT if self.status or self.faults or (self.check and self.runs) else Depth.CONSOLE
+
+    @functools.cached_property
+    def same(self) -> object:
+        """What its runs depend on beside the schedule. Tests that have the same here share their runs."""
+        machine, files = self.machine, tuple(sorted(self.files.items()))
+        parts = (self.typed, self.keys, self.end, self.programs, machine.frames, machine.steps, files)
+        is_alone = self.play or self.script or self.make or self.wants_files or "%" in repr(parts)
+        return self.name if is_alone else parts
 
 
 @dataclass(frozen=True)
@@ -817,15 +863,20 @@ class Engine:
     program: str
     scratch: pathlib.Path
 
+    def path(self, name: str) -> str:
+        """The name of a file of the folder."""
+        return f"{self.scratch}/{name}"
+
     def call(self, *words: Word, most: int = CONSOLE_LIMIT) -> Done:
         """Calls the program. If it prints more bytes than that, it is ended."""
-        with open(self.scratch / "error", "w+b") as error:
+        with open(self.path("error"), "w+b") as error:
             child = subprocess.Popen(
                 [self.program, *map(str, words)],
                 stdin=subprocess.DEVNULL,
                 stdout=subprocess.PIPE,
                 stderr=error,
                 env=ENVIRONMENT,
+                close_fds=False,  # none of them is handed on anyway, and a start costs less
             )
             limit_host(child.pid)
             assert child.stdout
@@ -883,6 +934,7 @@ class Images:
     base: Sequence[ManifestLine]
     programs: Mapping[str, pathlib.Path]
     made: dict[str, pathlib.Path] = field(default_factory=dict)
+    hosted: dict[bytes, pathlib.Path] = field(default_factory=dict)
 
     def lines(self, programs: Iterable[str], files: Mapping[str, Content]) -> list[str]:
         own = {f"/{name}" for name in programs} | {path for path in files if not path.endswith("/")}
@@ -917,9 +969,10 @@ class Images:
 
     def host_file(self, content: Content) -> pathlib.Path:
         data = content.encode("latin-1") if isinstance(content, str) else bytes(content)
-        path = self.engine.scratch / ("file-" + hashlib.sha256(data).hexdigest()[:16])
-        path.write_bytes(data)
-        return path
+        if data not in self.hosted:
+            path = self.hosted[data] = self.engine.scratch / ("file-" + hashlib.sha256(data).hexdigest()[:16])
+            path.write_bytes(data)
+        return self.hosted[data]
 
     def image(self, wanted: Sequence[str], files: Mapping[str, Content]) -> pathlib.Path:
         """An image with all programs, or at least those that are wanted."""
@@ -1098,7 +1151,7 @@ class Look:
 
     report: Table
     trace: Trace
-    is_traced: bool
+    depth: Depth
 
 
 @dataclass
@@ -1115,9 +1168,10 @@ class Run:
     said: str = ""
     console: str = ""
     output: str = ""
-    saved: Optional[pathlib.Path] = None
     recorded: Optional[str] = None
     looked: Optional[Look] = None
+    kept: Optional[pathlib.Path] = None
+    files: Optional[dict[str, Optional[bytes]]] = None
 
     @property
     def script(self) -> str:
@@ -1129,17 +1183,17 @@ class Run:
     @property
     def report(self) -> Table:
         """The report of the run; if it used up its steps, of a shorter one."""
-        return self.look(traced=self.test.wants_trace).report
+        return self.look(Depth.REPORT).report
 
     @property
     def trace(self) -> Trace:
         """What the run's processes did, of the same events as the report."""
-        return self.look(traced=True).trace
+        return self.look(Depth.CALLS).trace
 
-    def look(self, traced: bool) -> Look:
-        """Does the same again where it wasn't looked at, which takes much longer than a run that nobody looks at."""
-        if not self.looked or (traced and not self.looked.is_traced):
-            self.looked = self.runner.look(self, traced)
+    def look(self, depth: Depth) -> Look:
+        """Does the same again if it wasn't looked at so closely, which may take much longer."""
+        if not self.looked or self.looked.depth < depth:
+            self.looked = self.runner.look(self, depth)
         return self.looked
 
     @property
@@ -1186,12 +1240,23 @@ class Run:
                 break
         return ticks
 
+    @property
+    def saved(self) -> Optional[pathlib.Path]:
+        """The image at the end of the run, if it is there."""
+        if self.play and not self.kept:
+            self.runner.save(self)
+        return self.kept if self.kept and self.kept.is_file() else None
+
     def file(self, path: str) -> Optional[bytes]:
         """A file at the end of the run, if it is there."""
-        if not self.saved or not self.saved.is_file():
+        if not self.saved:
             return None
-        done = self.runner.engine.call("get", self.saved, path, most=TRACE_LIMIT)
-        return None if done.status else done.output
+        if self.files is None:
+            self.files = self.runner.files_of(self.saved)
+        if path not in self.files:
+            done = self.runner.engine.call("get", self.saved, path, most=TRACE_LIMIT)
+            self.files[path] = None if done.status else done.output
+        return self.files[path]
 
     def xv6(self, *words: Word) -> Done:
         """Calls the program; names of files may be those of the run: `run.image`, `run.saved`."""
@@ -1203,6 +1268,17 @@ class Run:
         return self.runner.folder
 
 
+def shared_runs(tests: Iterable[Test]) -> dict[tuple[object, Schedule], Depth]:
+    """The runs that several tests have, with the closest look that one of them takes."""
+    counts: Counter[tuple[object, Schedule]] = Counter()
+    depths: dict[tuple[object, Schedule], Depth] = {}
+    for test in tests:
+        for run in ((test.same, schedule) for schedule in test.machine.schedules):
+            counts[run] += 1
+            depths[run] = max(test.depth, depths.get(run, Depth.REPORT))
+    return {run: depth for run, depth in depths.items() if counts[run] > 1}
+
+
 @dataclass
 class Runner:
     """Runs the tests of a submission."""
@@ -1211,6 +1287,10 @@ class Runner:
     images: Images
     folder: pathlib.Path
     seed: str
+    shared: Mapping[tuple[object, Schedule], Depth] = field(default_factory=dict)
+    done: dict[tuple[object, Schedule], Run] = field(default_factory=dict)
+    last: bytes = b""
+    files: dict[str, Optional[bytes]] = field(default_factory=dict)
 
     def prepare(self, test: Test) -> tuple[Values, pathlib.Path]:
         """A test's values and image."""
@@ -1222,18 +1302,24 @@ class Runner:
 
     def run(self, test: Test, schedule: Schedule, values: Values, image: pathlib.Path, looks: bool) -> Run:
         """A run, which is looked at where that is wanted and it doesn't take too many steps for it."""
+        name = (test.same, schedule)
+        if name in self.done:
+            return dataclasses.replace(self.done[name], test=test, values=values)
         run = Run(test, schedule, values, self, image)
         if test.runs:
             run.play = self.script_of(test) if test.script else play_of(test, schedule, values)
-            if not looks or not self.run_looked_at(run):
+            depth = self.shared.get(name, max(test.depth, Depth.REPORT if looks else Depth.CONSOLE))
+            if depth is Depth.CONSOLE or not self.run_looked_at(run, depth):
                 self.run_alone(run)
             run.output = run.console if test.play or test.script else self.last_output(run)
+        if name in self.shared and run.end is End.DONE and run.looked and len(run.looked.trace.calls) < SHARED_CALLS:
+            self.done[name] = run
         return run
 
-    def run_looked_at(self, run: Run) -> bool:
+    def run_looked_at(self, run: Run, depth: Depth) -> bool:
         """Does a run and looks at it, which takes much longer a step: so it is given up after LOOKED_STEPS."""
         play = capped(run.play, LOOKED_STEPS)
-        done, look = self.boot_looked_at(run, play, run.test.wants_trace)
+        done, look = self.boot_looked_at(run, play, depth, run.test.wants_files)
         run.looked = look
         run.end, run.said = end_of(done)
         run.console = done.output.decode("latin-1")
@@ -1241,64 +1327,82 @@ class Runner:
 
     def run_alone(self, run: Run) -> None:
         """Does a run that nobody looks at."""
-        done = self.boot(run, ["play", "--script", self.engine.scratch / "script"], run.play)
+        done = self.boot(run, ["play", "--script", self.engine.path("script")], run.play, run.test.wants_files)
         run.console = done.output.decode("latin-1")
         run.end, run.said = end_of(done)
         run.recorded = self.taken("script").decode()
         if run.end is not End.UNREACHED:
             run.looked = None  # it was given up
 
-    def boot(self, run: Run, words: Sequence[Word], play: str) -> Done:
-        """Boots the image of a run and gives it a play."""
+    def boot(self, run: Run, words: Sequence[Word], play: str, keeps: bool = False) -> Done:
+        """Boots the image of a run and gives it a play; keeps the image that it leaves, if that is wanted."""
         saves: list[Word] = []
-        if run.test.left or run.test.check:
-            run.saved = self.engine.scratch / "saved.img"
-            run.saved.unlink(missing_ok=True)
-            saves = ["--save", run.saved]
+        if keeps:
+            run.kept, run.files = self.engine.scratch / "saved.img", None
+            run.kept.unlink(missing_ok=True)
+            saves = ["--save", run.kept]
         frames = ["--frames", str(run.test.machine.frames)]
         return self.engine.call(*words, *frames, *saves, run.image, self.file("play", play))
 
-    def boot_looked_at(self, run: Run, play: str, traced: bool) -> tuple[Done, Look]:
-        """The same, with a report, and with a trace if one is wanted."""
-        here = self.engine.scratch
-        report: list[Word] = ["--json", here / "report"]
-        trace: list[Word] = ["--play", "--text", os.devnull, "--bytes", "64", "--jsonl", here / "events"]
-        done = self.boot(run, ["trace", *trace, *report] if traced else ["play", *report], play)
-        told, is_whole = self.taken("report"), traced and not done.is_cut
-        return done, Look(json.loads(told or b"{}"), self.read_trace(run.test) if is_whole else Trace(), traced)
+    def boot_looked_at(self, run: Run, play: str, depth: Depth, keeps: bool = False) -> tuple[Done, Look]:
+        """The same, with a report, and with a trace if one is wanted: of all calls, or of those that say whose child
+        a process is and what it executes."""
+        path, is_traced = self.engine.path, depth > Depth.REPORT
+        report = ["--json", path("report")]
+        calls = [] if depth is Depth.CALLS else ["--calls", "fork,exec,wait"]
+        trace = ["--play", "--text", os.devnull, "--bytes", "64", *calls, "--jsonl", path("events")]
+        done = self.boot(run, ["trace", *trace, *report] if is_traced else ["play", *report], play, keeps)
+        told, is_whole = self.taken("report"), is_traced and not done.is_cut
+        return done, Look(json.loads(told or b"{}"), self.read_trace(run.test) if is_whole else Trace(), depth)
 
-    def look(self, run: Run, traced: bool) -> Look:
+    def look(self, run: Run, depth: Depth) -> Look:
         """Does what a run did once more, and looks at it. Of one that used up its steps it is another, that ends."""
-        return self.boot_looked_at(run, cut_short(run), traced)[1] if run.play else Look({}, Trace(), True)
+        return self.boot_looked_at(run, cut_short(run), depth)[1] if run.play else Look({}, Trace(), depth)
+
+    def save(self, run: Run) -> None:
+        """Does what a run did once more, and keeps its image."""
+        self.boot(run, ["play"], run.play, keeps=True)
+
+    def files_of(self, image: pathlib.Path) -> dict[str, Optional[bytes]]:
+        """The files that are known of an image: the last one's, if it is the same."""
+        data = image.read_bytes()
+        if data != self.last:
+            self.last, self.files = data, {}
+        return self.files
 
     def record(self, run: Run) -> str:
         """The script of a run. Of one that used up its steps or printed without end it is that of a shorter one."""
         if run.test.script:
             return run.play
-        self.boot(run, ["play", "--script", self.engine.scratch / "script"], cut_short(run))
+        self.boot(run, ["play", "--script", self.engine.path("script")], cut_short(run))
         return self.taken("script").decode()
 
-    def file(self, name: str, text: str) -> pathlib.Path:
-        path = self.engine.scratch / name
-        path.write_text(text, encoding="latin-1")
+    def file(self, name: str, text: str) -> str:
+        path = self.engine.path(name)
+        with open(path, "w", encoding="latin-1") as out:
+            out.write(text)
         return path
 
     def taken(self, name: str) -> bytes:
         """What a run left in a file, which is gone then."""
-        path = self.engine.scratch / name
-        data = path.read_bytes() if path.is_file() else b""
-        path.unlink(missing_ok=True)
+        path = self.engine.path(name)
+        try:
+            with open(path, "rb") as file:
+                data = file.read()
+        except FileNotFoundError:
+            return b""
+        os.unlink(path)
         return data
 
     def read_trace(self, test: Test) -> Trace:
-        path = self.engine.scratch / "events"
-        if not path.is_file():
+        path = self.engine.path("events")
+        if not os.path.isfile(path):
             return Trace()
-        if path.stat().st_size > TRACE_LIMIT:
+        if os.path.getsize(path) > TRACE_LIMIT:
             raise CannotRun(f"its processes make too many calls to be looked at: more than {TRACE_LIMIT} bytes")
         with open(path, encoding="utf-8") as lines:
             trace = TraceReader(test.programs).read(lines)
-        path.unlink()
+        os.unlink(path)
         return trace
 
     def script_of(self, test: Test) -> str:
@@ -1330,8 +1434,7 @@ class Runner:
 
     def begin_of_last(self, run: Run, echo: str) -> int:
         typed = run.play.rfind("\ntype ")
-        before = dataclasses.replace(run, saved=None, test=dataclasses.replace(run.test, left={}, check=None))
-        done = self.boot(before, ["play"], run.play[: typed + 1])
+        done = self.boot(run, ["play"], run.play[: typed + 1])
         return run.console.find(echo, len(done.output)) if end_of(done)[0] is End.DONE else -1
 
 
@@ -1574,17 +1677,17 @@ def judge_processes(run: Run, looks: bool, verdict: Verdict) -> None:
             judge_status(
                 name, status, [end for end in run.report["ended"] if base_name(end["program"]) == name], verdict
             )
-    if run.test.wants_trace:
-        judge_trace(run, verdict)
+    if run.test.depth > Depth.REPORT:
+        judge_trace(run, run.look(run.test.depth).trace, verdict)
 
 
-def judge_trace(run: Run, verdict: Verdict) -> None:
+def judge_trace(run: Run, trace: Trace, verdict: Verdict) -> None:
     """Ticks, descriptors, children and calls."""
     if run.test.ticks and not run.test.ticks[0] <= run.ticks <= run.test.ticks[1]:
         verdict.said.append(f"it took {run.ticks} ticks; {run.test.ticks[0]} to {run.test.ticks[1]} are right")
-    for end in run.trace.exits:
-        judge_exit(run.test, end, end.pid in run.trace.own, verdict)
-    made = Counter(call.name for call in run.trace.own_calls()) + Counter(exit=len(run.trace.own_exits()))
+    for end in trace.exits:
+        judge_exit(run.test, end, end.pid in trace.own, verdict)
+    made = Counter(call.name for call in trace.own_calls()) + Counter(exit=len(trace.own_exits()))
     for name, least in run.test.calls.items():
         if made[name] < least:
             verdict.said.append(f"calls of {name}: {made[name]}, and at least {least} are wanted")
@@ -1753,7 +1856,7 @@ def run_schedules(runner: Runner, test: Test, result: Result) -> None:
     refuse_missing(runner, test)
     values, image = runner.prepare(test)
     for schedule in test.machine.schedules if test.typed or test.play else test.machine.schedules[:1]:
-        looks = result.runs == 0 or test.wants_look
+        looks = result.runs == 0 or test.depth > Depth.CONSOLE
         run = runner.run(test, schedule, values, image, looks)
         verdict = judge(run, looks)
         result.runs += 1
@@ -1810,7 +1913,7 @@ def grade(
     base = read_manifest(rubric.machine.manifest)
     with tempfile.TemporaryDirectory(prefix="grade-") as scratch:
         engine = Engine(program, pathlib.Path(scratch))
-        runner = Runner(engine, Images(engine, rubric.machine, base, programs), folder, seed)
+        runner = Runner(engine, Images(engine, rubric.machine, base, programs), folder, seed, shared_runs(tests))
         grading = Grading(rubric, folder, seed, engine.version(), [], "")
         for number, test in enumerate(tests, 1):
             result = grade_test(runner, test)
@@ -1923,7 +2026,7 @@ def section(number: int, result: Result, links: Sequence[str], is_shown: bool) -
         return head + "\n"
     parts = [head, f"<pre>{html.escape(cut(result.text))}</pre>"]
     if result.run and result.run.play:
-        parts += last_calls(result.run.look(traced=True))
+        parts += last_calls(result.run.look(Depth.CALLS))
     parts += [f'<p><a href="{link}">{link}</a>: {LINKS[link.rsplit(".", 1)[1]]}</p>' for link in reversed(links)]
     return "\n".join(parts) + "\n"
 

@@ -1,7 +1,8 @@
 #!/bin/sh
 # check_library.sh FOLDER PROGRAM IMAGE: tries the library that library.sh made. C: a session, 40 machines, copies and arguments that are wrong,
-# under valgrind, which has to find no leak and no invalid access; Python: the package, and 50 random sessions. The console's bytes are those
-# of `xv6 run`. It needs Debian's gcc, g++, make, valgrind and python3;
+# under valgrind, which has to find no leak and no invalid access, in a thread with a stack of 256 kB; Python: the package, and 100 random
+# sessions. The console's bytes are those of `xv6 run`, the processes at the end those of its `--json`, and calls, faults and exits those of
+# `xv6 trace --jsonl`. It needs Debian's gcc, g++, make, valgrind and python3;
 # what pip, python3-matplotlib, jupyter-nbconvert and mypy are for is left out, with a word, where they are missing.
 set -e
 cd "$(dirname "$0")/.."
@@ -10,7 +11,7 @@ for tool in cc c++ valgrind python3; do
 done
 scratch=$(mktemp -d)
 trap 'rm -rf "$scratch"' EXIT
-cc -std=c99 -Wall -Wextra -pedantic -Werror -O1 -g -I"$1" bindings/c/test.c "$1/libxv6.a" -o "$scratch/test"
+cc -std=c99 -Wall -Wextra -pedantic -Werror -O1 -g -pthread -I"$1" bindings/c/test.c "$1/libxv6.a" -o "$scratch/test"
 c++ -x c++ -std=c++11 -Wall -Wextra -pedantic -Werror -fsyntax-only "$1/xv6.h"
 valgrind --quiet --error-exitcode=9 --leak-check=full --show-leak-kinds=all --errors-for-leak-kinds=all \
     "$scratch/test" "$3" "$scratch/script" > "$scratch/console"

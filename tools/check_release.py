@@ -96,9 +96,7 @@ def wheel(at):
 
 def without_library(at):
     """The package without a library says in a line how to get one."""
-    place = at / "bare" / "cathompi"
-    place.mkdir(parents=True)
-    shutil.copyfile(TOP / "bindings" / "python" / "cathompi" / "__init__.py", place / "__init__.py")
+    shutil.copytree(TOP / "bindings" / "python" / "cathompi", at / "bare" / "cathompi", ignore=shutil.ignore_patterns("*.so"))
     done = subprocess.run([sys.executable, "-c", "import cathompi"], cwd=at / "bare", capture_output=True, text=True)
     last = done.stderr.strip().splitlines()[-1:]
     if not last or not last[0].startswith("ImportError") or "wheel" not in last[0]:

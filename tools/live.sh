@@ -2,6 +2,7 @@
 # live.sh PROGRAM IMAGE RECORD [START]: a session at the shell of an image. A terminal is set so that each read of it ends after a tenth
 # of a second, and is set back exactly, however the session ends; a signal to this script alone ends the session, too.
 # With START the session leaves its files on IMAGE; START is the image as it was before, from which RECORD gives the same session again.
+# With SYMBOLS in the environment faults have the names of the files in that directory.
 program=$1 image=$2 record=$3 start=${4:-}
 set -- "$image"
 if [ -n "$start" ]; then
@@ -9,6 +10,7 @@ if [ -n "$start" ]; then
     echo "$image keeps the files of this session: ^A x ends it, ^C ends it and keeps nothing (make fresh: a new disk)" >&2
     set -- --save "$image" "$start"
 fi
+[ -z "${SYMBOLS:-}" ] || set -- --symbols "$SYMBOLS" "$@"
 [ -t 0 ] || exec "$program" live --frames 4096 --record "$record" "$@"
 
 # Ends the session by a signal, and this script with a status.

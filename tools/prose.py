@@ -81,6 +81,9 @@ def faults(name, line, words):
 
 
 def main(given):
+    if "--help" in given:
+        print(__doc__.strip())
+        return 0
     files = [pathlib.Path(it).resolve() for it in given if pathlib.Path(it).is_file()]
     lines = ((str(it.relative_to(TOP)), n, line) for it in files for n, line in enumerate(without_code(it).splitlines(), 1))
     words, bad = list(listed_words()), 0

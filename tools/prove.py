@@ -200,8 +200,8 @@ def prove_below(name, jobs):
 
 
 def prove_in(lanes, names, crates):
-    """These crates in these lanes, each once all below it are libraries, the longest chains first, up to the first that isn't proved. What
-    begins while there are more lanes than crates to begin with has that many jobs."""
+    """These crates in these lanes, each once all below it are libraries, the longest chains first, up to the first that isn't proved.
+    What begins while there are more lanes than crates to begin with has that many jobs; the one that all wait for has two at least."""
     started, chain = time.monotonic(), chains(names, crates)
     left, done, at_work, free = set(names), set(), {}, SimpleQueue()
     for lane in lanes:
@@ -219,7 +219,8 @@ def prove_in(lanes, names, crates):
             ready = sorted((it for it in left if done.issuperset(crates[it])), key=chain.get, reverse=True)
             room = len(lanes) - len(at_work)
             begun = ready[:room]
-            at_work |= {pool.submit(build, it, room // len(begun)): it for it in begun}
+            longest = max(chain[it] for it in (*left, *at_work.values()))
+            at_work |= {pool.submit(build, it, max(room // len(begun), 1 + (chain[it] == longest))): it for it in begun}
             left.difference_update(begun)
             for built in wait(at_work, return_when=FIRST_COMPLETED).done:
                 crate, ran = at_work.pop(built), built.result()

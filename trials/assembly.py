@@ -138,6 +138,9 @@ def exercises(program, folder):
 
 
 def main():
+    if "--help" in sys.argv[1:]:
+        print(__doc__.strip())
+        return 0
     program = os.path.abspath(sys.argv[1])
     page = open(os.path.join(TOP, "docs/ASSEMBLY.md")).read()
     with tempfile.TemporaryDirectory() as folder:

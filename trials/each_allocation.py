@@ -132,6 +132,9 @@ def refuse_all(program):
 
 
 def main(words):
+    if "--help" in words:
+        print(__doc__.strip())
+        return 0
     if len(words) != 1:
         print(__doc__.strip())
         return 2

@@ -1,17 +1,20 @@
 #!/usr/bin/env python3
 """terminal.py PROGRAM IMAGE: sessions at a pseudo-terminal, as `make live` has them: ^A x, ^C, keys while a program spins, lines that
-come slowly, a terminal that is closed, input from a pipe, and standard input that gives errors or doesn't wait. The terminal is set back exactly, and each record replays to the same console."""
+come slowly, a program that crashes, a terminal that is closed, input from a pipe, and standard input that gives errors or doesn't wait. The terminal is set back exactly, and each record replays to the same console."""
 import os
 import pty
 import select
 import shutil
 import signal
+import struct
 import subprocess
 import sys
 import tempfile
 import termios
 import time
 
+if len(sys.argv) != 3 or "--help" in sys.argv:
+    sys.exit(__doc__)
 PROGRAM, IMAGE = (os.path.abspath(path) for path in sys.argv[1:3])
 TOP = os.path.dirname(os.path.dirname(os.path.abspath(__file__)))
 FRAMES = ["--frames", "4096"]
@@ -50,10 +53,27 @@ done: .ascii "done\\n"
 """
 
 
+# Loads from where there is no page, and what is printed of that.
+CRASH = """lui a0, 0x7000
+ld a1, 8(a0)
+"""
+FAULT = b"pid 3 (crash): load from 0x7000008 at pc 0x4 in main+0x4: the process has no page there\n"
+
+
+def symbol_file(name, size):
+    """A program file that has nothing but one symbol, a function at address 0."""
+    names = b"\0" + name + b"\0"
+    symbol = struct.pack("<IBBHQQ", 1, 0x12, 0, 1, 0, size)
+    header = b"\x7fELF\x02\x01\x01".ljust(16, b"\0") + struct.pack("<HHIQQQIHHHHHH", 2, 243, 1, 0, 0, 64, 0, 64, 0, 0, 64, 2, 0)
+    sections = struct.pack("<IIQQQQIIQQ", 0, 2, 0, 0, 192, 24, 1, 0, 8, 24)
+    sections += struct.pack("<IIQQQQIIQQ", 0, 3, 0, 0, 216, len(names), 0, 0, 1, 0)
+    return header + sections + symbol + names
+
+
 class Session:
     """A session at a pseudo-terminal of its own."""
 
-    def __init__(self, folder, image, start=None):
+    def __init__(self, folder, image, start=None, symbols=None):
         self.image = start or image
         self.record, self.told = os.path.join(folder, "record"), os.path.join(folder, "told")
         self.console = b""
@@ -62,7 +82,8 @@ class Session:
         with open(self.told, "wb") as told:
             self.child = subprocess.Popen(
                 [os.path.join(TOP, "tools", "live.sh"), PROGRAM, image, self.record, *([start] if start else [])],
-                stdin=self.follow, stdout=self.follow, stderr=told, preexec_fn=self.own_terminal,
+                stdin=self.follow, stdout=self.follow, stderr=self.follow if symbols else told, preexec_fn=self.own_terminal,
+                env={**os.environ, "SYMBOLS": symbols or ""},
             )
 
     def own_terminal(self):
@@ -268,6 +289,22 @@ def slow(folder):
     assert session.replay().count(b"there\n") >= 3, session.console
 
 
+def crash(folder):
+    """A fault is printed on the terminal where it comes, with the name of its pc, and is not in the record."""
+    image, names = with_program(folder, "crash", CRASH), os.path.join(folder, "names")
+    os.mkdir(names)
+    with open(os.path.join(names, "crash.elf"), "wb") as file:
+        file.write(symbol_file(b"main", 64))
+    session = Session(folder, image, symbols=names)
+    session.until(b"$ ")
+    session.type(b"crash\n")
+    session.until(b"$ crash\n" + FAULT + b"$ ")
+    session.type(b"\x01x")
+    session.ends(0)
+    session.console = session.console.replace(FAULT, b"")
+    assert session.replay().endswith(b"$ crash\n$ "), session.console
+
+
 def pipe(folder):
     record = os.path.join(folder, "record")
     done = subprocess.run([PROGRAM, "live", "--record", record, IMAGE], input=b"echo hi | cat\n", capture_output=True)
@@ -282,7 +319,7 @@ def pipe(folder):
     assert (lost.returncode, lost.stderr) == (1, b"halt 3 Console\n"), lost
 
 
-for part in (leave, keep, kill, terminate, spin, slow, close, hang_up, pipe, errors):
+for part in (leave, keep, kill, terminate, spin, slow, crash, close, hang_up, pipe, errors):
     with tempfile.TemporaryDirectory() as place:
         part(place)
     print(part.__name__, "ok", flush=True)

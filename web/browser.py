@@ -10,6 +10,8 @@ import time
 NAMES = ("chromium", "chromium-browser", "google-chrome")
 KEYS = {"\n": ("Enter", "\r", 13), "Tab": ("Tab", "", 9), **{f"F{number}": (f"F{number}", "", 111 + number) for number in range(1, 13)}}
 CONTROL = 2
+# How many times as long as on an idle machine things may take.
+SLOW = float(os.environ.get("SLOW", "1"))
 
 
 class Browser:
@@ -102,7 +104,7 @@ class Browser:
 
     def wait(self, text, what, seconds=30):
         """Waits until an expression is true. What it names may come later."""
-        end = time.time() + seconds
+        end = time.time() + seconds * max(1, SLOW)
         while not self.js(f"(() => {{ try {{ return Boolean({text}); }} catch {{ return false; }} }})()"):
             if time.time() > end:
                 raise TimeoutError(what)

@@ -35,8 +35,10 @@ const CALLS = {
 };
 export const FORK = 1;
 export const EXIT = 2;
+export const WAIT = 3;
 export const READ = 5;
 export const EXEC = 7;
+export const SLEEP = 13;
 export const WRITE = 16;
 
 export const callName = (number) => CALLS[number]?.name ?? say("call-number", { number });
@@ -54,13 +56,6 @@ function letterOf(byte) {
 export function quote(bytes, most = MOST_BYTES) {
   const text = [...bytes.slice(0, most)].map(letterOf).join("");
   return `"${text}"${bytes.length > most ? "..." : ""}`;
-}
-
-/** What a waiting process waits for, in words. */
-export function waitsFor({ call, registers }) {
-  const number = low(registers[A0]);
-  const known = { [READ]: "waits-read", [WRITE]: "waits-write", 3: "waits-child", 13: "waits-ticks" }[call];
-  return known ? say(known, { number }) : say("waits-call", { call: callName(call) });
 }
 
 function told(machine, process, kind, index) {
@@ -212,7 +207,8 @@ export class Calls {
     if (process?.state === "ready" && stepped.isAtCall) this.answer(machine, process, position);
     if (process && process.state !== "ended") return;
     this.open.delete(stepped.pid);
-    if (!stepped.isAtCall) this.faults.push({ at: stepped.at, pid: stepped.pid, text: faultOf(machine, process) ?? say("fault-killed") });
+    if (stepped.isAtCall) return;
+    this.faults.push({ at: stepped.at, pid: stepped.pid, pc: process?.pc ?? 0n, text: faultOf(machine, process) ?? say("fault-killed") });
   }
 
   /** A tick or a key comes at a position: a call that was next there comes later. Then `act` gives it to the machine. */

@@ -1,7 +1,7 @@
 #!/usr/bin/env python3
 """check.py PAGE PROGRAM IMAGE FOLDER: uses the page in a browser without a window, at two widths, and compares what its terminal shows with the
-console that PROGRAM, the built xv6, gives of the same events, and its files with what that leaves. FOLDER gets pictures of each view. Where
-Firefox is there, it is used too."""
+console that PROGRAM, the built xv6, gives of the same events, and its files with what that leaves. FOLDER gets pictures of each view, which are
+compared with those of web/pictures; with KEEP=1 they are kept there instead. Where Firefox is there, it is used too."""
 import base64
 import hashlib
 import json
@@ -11,16 +11,61 @@ import random
 import subprocess
 import sys
 import tempfile
-import time
 import zlib
 
-from browser import Browser
+from browser import SLOW, Browser
 from firefox import Firefox
 from make_page import UNPACK, joined
 
 HERE = pathlib.Path(__file__).resolve().parent
 PORTRAIT = HERE.parent / "docs" / "page.png"
 WIDTHS = {1280: 800, 390: 844}
+KEPT = HERE / "pictures"
+KEPT_SCALE = 8
+CELL, CELL_OTHER = 3, 12  # pixels of a kept picture, and by how much of 255 the colours of a cell may differ
+# The share of a picture's cells that may differ from the kept one: in Chromium, and in Firefox, whose letters are others.
+MOST_OTHER = {"": 0.006, "firefox-": 0.08}
+# A paused machine: a directory was made, and of two programs one has written to the other.
+STILL = "step 5000\ntype mkdir d\nstep 5000\ntype echo hi | cat\nstep 758\n"
+ACCESS = f"(() => {{ {(HERE / 'access.js').read_text().replace('export ', '')}\nreturn broken(); }})()"
+# A picture made small, as one is kept.
+LOADED = """const loaded = (text) => new Promise((done) => {
+    const image = new Image();
+    image.onload = () => done(image);
+    image.src = "data:image/png;base64," + text;
+  });
+  const drawn = (image, wide, tall) => {
+    const pen = new OffscreenCanvas(wide, tall).getContext("2d");
+    pen.imageSmoothingQuality = "high";
+    pen.drawImage(image, 0, 0, wide, tall);
+    return pen;
+  };"""
+SMALL = f"""(async () => {{
+  {LOADED}
+  const image = await loaded(PICTURE);
+  const [wide, tall] = [image.width, image.height].map((pixels) => Math.round(pixels / {KEPT_SCALE}));
+  const blob = await drawn(image, wide, tall).canvas.convertToBlob();
+  return btoa(String.fromCharCode(...new Uint8Array(await blob.arrayBuffer())));
+}})()"""
+# The share of the cells of a kept picture and another one that differ, and their heights by their widths.
+COMPARE = f"""(async () => {{
+  {LOADED}
+  const [one, two] = await Promise.all([KEPT, PICTURE].map(loaded));
+  const [wide, tall] = [one.width, one.height];
+  const [first, second] = [one, two].map((image) => drawn(image, wide, tall).getImageData(0, 0, wide, tall).data);
+  const mean = (data, x, y, part) => {{
+    let sum = 0;
+    for (let at = 0; at < {CELL ** 2}; at += 1) sum += data[4 * ((y + Math.floor(at / {CELL})) * wide + x + (at % {CELL})) + part];
+    return sum / {CELL ** 2};
+  }};
+  let [other, all] = [0, 0];
+  for (let y = 0; y + {CELL} <= tall; y += {CELL}) {{
+    for (let x = 0; x + {CELL} <= wide; x += {CELL}, all += 1) {{
+      if ([0, 1, 2].some((part) => Math.abs(mean(first, x, y, part) - mean(second, x, y, part)) > {CELL_OTHER})) other += 1;
+    }}
+  }}
+  return [other / all, one.height / one.width, two.height / two.width];
+}})()"""
 VIEWS = ("run", "inside", "disk")
 COURSE = HERE.parent / "course"
 HELLO = COURSE / "first_week" / "hello"
@@ -66,8 +111,8 @@ for (let seed = 1; seed <= {JOURNEYS}; seed += 1) journeys.journey(module, image
 # What the page says of /crash.
 CRASH = "process 3 ended: ld a0, 0(t0) at 0x8: a load of 8 bytes from 0x5000: the process has no page there, its 3 pages end at 0x3000"
 MANY = 10_000_000
-# How many times as long as on an idle machine things may take.
-SLOW = float(os.environ.get("SLOW", "1"))
+# Whether the pictures are kept, and compared by the next run.
+KEEP = os.environ.get("KEEP", "") not in ("", "0")
 # The milliseconds that it takes to be back by one event, from ten positions.
 BACKS = """[...Array(10).keys()].map((index) => {
   const bar = document.getElementById("position");
@@ -77,7 +122,7 @@ BACKS = """[...Array(10).keys()].map((index) => {
   document.querySelector("[data-back=step]").click();
   return performance.now() - begin;
 })"""
-# The texts whose contrast to what is behind them is too small.
+# The texts whose contrast to their ground is too small.
 CONTRAST = """(() => {
   const parts = (text) => text.match(/[\\d.]+/g).map(Number);
   const light = (text) => {
@@ -114,8 +159,8 @@ def script_of(address):
 class Check:
     """The page in a browser, and the program beside it."""
 
-    def __init__(self, browser, page, program, image, folder):
-        self.browser, self.page = browser, pathlib.Path(page).resolve()
+    def __init__(self, browser, page, program, image, folder, name=""):
+        self.browser, self.page, self.name = browser, pathlib.Path(page).resolve(), name
         self.address = self.page.as_uri()
         self.program, self.image = str(pathlib.Path(program).resolve()), str(pathlib.Path(image).resolve())
         self.pictures, self.folder = pathlib.Path(folder), pathlib.Path(tempfile.mkdtemp(dir=browser.folder))
@@ -318,10 +363,7 @@ class Check:
 
     def portrait(self):
         """The picture of the docs: the shell's two children of `echo hi | cat`, with the bytes in the pipe."""
-        self.pause()
-        self.browser.type("echo hi | cat\n")
-        self.look("inside")
-        self.to_pipe_bytes()
+        self.pipes()
         self.browser.picture(PORTRAIT, small=(1280, 800, 0.6))
 
     def pause(self):
@@ -341,12 +383,27 @@ class Check:
     def pipes(self):
         """`echo hi | cat` is stopped with bytes in the pipe, and the picture says so."""
         self.start(self.address, 1280)
-        self.portrait()
+        self.pause()
+        self.browser.type("echo hi | cat\n")
+        self.look("inside")
+        self.to_pipe_bytes()
         shown = self.text("pipes")
         for part in ("Pipe 0", "echo (descriptor 1)", '"hi\\n"', "3 of 512 bytes", "sh (descriptor 3)"):
             if part not in shown:
                 raise SystemExit(f"the picture of the pipe has no {part!r}: {shown!r}")
         self.equal("writes pipe 0" in self.text("descriptors"), True, "bytes in a pipe are shown, and who holds its ends")
+
+    def waits(self):
+        """What each process waits for and who could end it, how many ticks there were, and which pid comes next."""
+        self.start(self.address, 1280)
+        self.browser.type("cat | cat\n")
+        self.browser.wait("document.getElementById('processes').innerText.includes('in pipe')", "two programs that wait")
+        self.rest(300)
+        states = self.browser.js("[...document.querySelectorAll('#processes .state')].map((it) => it.innerText)")
+        wanted = ["a child to end, 2 (wait)", "a child to end, 3, 4 (wait)", "a line of the console (read)", "bytes in pipe 0, from 3 (read)"]
+        self.equal(states, [f"waits for {it}" for it in wanted], "what each process waits for")
+        ticks = self.browser.js("document.getElementById('status').textContent.match(/[\\d,]+ ticks?/)[0]")
+        self.equal(self.text("coming"), f"{ticks} since the boot; the next fork gives process 5", "the ticks, and the next pid")
 
     def back_to_key(self):
         self.browser.js("document.querySelector('[data-back=key]').click()")
@@ -592,8 +649,14 @@ class Check:
             tall, wide = self.browser.js("[document.documentElement.scrollHeight, document.documentElement.scrollWidth]")
             self.equal(tall <= 800 and wide <= 1280, True, f"{view}: above the fold")
 
+    def accesses(self):
+        """The rules of access.js hold."""
+        for view in self.views:
+            self.look(view)
+            self.equal(self.browser.js(ACCESS), [], f"{view}: the rules of access")
+
     def contrasts(self):
-        """Each text has a contrast of 7 at least to what is behind it."""
+        """Each text has a contrast of 7 at least to its ground."""
         for view in self.views:
             self.look(view)
             self.equal(self.browser.js(CONTRAST), [], f"{view}: contrast")
@@ -663,6 +726,41 @@ class Check:
         print(f"  first prompt {shown:.0f} ms after the load begins, {MANY} steps replayed in {replayed:.0f} ms, back in {max(backs):.1f} ms at most")
         self.equal((shown < 500 * SLOW, replayed < 2000 * SLOW, max(backs) < 100 * SLOW), (True, True, True), "times")
 
+    def still(self):
+        """The link to a paused machine."""
+        self.start(self.address, 1280)
+        (self.folder / "still").write_text(STILL)
+        self.browser.give_file("#script-input", self.folder / "still")
+        self.browser.wait("document.getElementById('status').textContent.startsWith('pauses')", "the paused machine")
+        self.rest(300)
+        end = self.browser.js("document.getElementById('position').max")
+        return f"{self.link()[0]}&at={end}"
+
+    def stand(self, address, width, dark):
+        """Opens the link to the paused machine."""
+        self.browser.size(width, WIDTHS[width], dark)
+        self.browser.open(address)
+        self.browser.wait("document.getElementById('status').textContent.startsWith('pauses')", "the paused machine", 60)
+        if dark and self.name:
+            self.browser.click("#theme")
+        self.rest(500)
+
+    @staticmethod
+    def as_text(path):
+        return json.dumps(base64.b64encode(path.read_bytes()).decode())
+
+    def keep(self, got, kept):
+        """Keeps a picture, small."""
+        kept.write_bytes(base64.b64decode(self.browser.js(SMALL.replace("PICTURE", self.as_text(got)))))
+
+    def compare(self, got, kept):
+        """Compares a picture with the kept one: it has its shape and, nearly everywhere, its colours."""
+        text = COMPARE.replace("KEPT", self.as_text(kept)).replace("PICTURE", self.as_text(got))
+        other, one, two = self.browser.js(text)
+        most = MOST_OTHER["firefox-" if got.name.startswith("firefox-") else ""]
+        said = f"{got.name}: {100 * other:.1f} % of it differ from the kept picture"
+        self.equal((other <= most, abs(one - two) <= 0.06 * one), (True, True), said)
+
     def fits(self, width):
         wide = self.browser.js("document.documentElement.scrollWidth")
         self.equal(wide <= width, True, f"nothing is wider than {width} pixels")
@@ -705,17 +803,31 @@ class Check:
         self.equal(got, wanted, f"the texts of {len(words)} words")
 
 
-def looks(check, width):
-    """Pictures of each view, light and dark."""
-    for dark in (False, True):
-        check.browser.size(width, WIDTHS[width], dark)
-        for view in check.views:
-            check.look(view)
-            check.fits(width)
-            check.browser.picture(check.pictures / f"{view}-{width}{'-dark' if dark else ''}.png", whole=width < 1000)
-        check.contrasts()
-    check.browser.size(width, WIDTHS[width])
-    check.look("run")
+def looks(check, address):
+    """Pictures of each view of the paused machine, at both widths, light and dark: nothing is too wide, and each text has contrast. Returns
+    their names."""
+    names = []
+    for width in WIDTHS:
+        for dark in (False, True):
+            check.stand(address, width, dark)
+            for view in check.views:
+                check.look(view)
+                check.fits(width)
+                names.append(f"{view}-{width}{'-dark' if dark else ''}.png")
+                check.browser.picture(check.pictures / f"{check.name}{names[-1]}", whole=width < 1000)
+            check.contrasts()
+    return names
+
+
+def compare(check, names):
+    """Compares the pictures of both browsers with those that are kept, or keeps those of Chromium."""
+    check.browser.open("about:blank")
+    for kept in (KEPT / name for name in names):
+        if KEEP:
+            check.keep(check.pictures / kept.name, kept)
+        for got in (check.pictures / kept.name, check.pictures / f"firefox-{kept.name}"):
+            if got.exists():
+                check.compare(got, kept)
 
 
 def use(check, width):
@@ -725,7 +837,6 @@ def use(check, width):
     check.edits()
     check.pastes()
     check.files()
-    looks(check, width)
     check.images()
     check.steps()
     check.shows()
@@ -739,56 +850,34 @@ def use(check, width):
 def wide(check):
     """What is looked at in a wide window alone."""
     print("views and time:")
-    for part in (check.pipes, check.travels, check.breaks, check.crashes, check.races, check.exercises, check.puts, check.lines_by_steps, check.failed_test, check.speaks, check.above_the_fold, check.stops, check.helps, check.framed, check.times):
+    for part in (check.portrait, check.waits, check.travels, check.breaks, check.crashes, check.races, check.exercises, check.puts):
         part()
+    for part in (check.lines_by_steps, check.failed_test, check.speaks, check.accesses, check.above_the_fold, check.stops, check.helps, check.framed):
+        part()
+    check.times()
 
 
-def solve(check, browser):
-    """Solves an exercise in Firefox."""
-    if browser.js("document.getElementById('tab-write').hidden"):
-        return
-    browser.click("#tab-write")
-    texts = {"exercises": ("hello", "change"), "source": ((HELLO / "right/hello.s").read_text(), "input")}
-    for name, (text, event) in texts.items():
-        browser.js(f"(() => {{ const it = document.getElementById({json.dumps(name)}); it.value = {json.dumps(text)}; it.dispatchEvent(new Event({json.dumps(event)})); }})()")
-    browser.click("#check")
-    browser.wait("document.getElementById('said').textContent.includes('10 of 10 points')", "the exercise")
-    check.equal(browser.js("document.querySelectorAll('#results .right').length"), 2, "an exercise is solved in Firefox")
-
-
-def firefox(check, image):
-    """The same console in Firefox, and pictures of the views."""
+def firefox(page, program, image, folder, address):
+    """The same in Firefox, where it is there: what is done at the console, in time and in exercises, and pictures of each view."""
     if not Firefox.program():
         print("no firefox: not tried (apt install firefox-esr)")
         return
     print("firefox:")
     with Firefox() as browser:
-        browser.size(1280, 800)
-        browser.open(check.address)
-        browser.wait(f"document.getElementById('screen') && {PROMPT} && {IDLE}", "the first prompt")
-        browser.js("document.getElementById('keys').focus()")
-        for line in LINES:
-            browser.type(f"{line}\n")
-            browser.wait(f"{PROMPT} && {IDLE} && document.getElementById('screen').textContent.includes({json.dumps(line)})", line)
-            time.sleep(0.4)
-        screen = browser.js("document.getElementById('screen').textContent")
-        browser.js("document.getElementById('link').value = ''")
-        browser.click("#make-link")
-        browser.wait("document.getElementById('link').value.includes('#session=')", "the link")
-        console, _ = check.run(script_of(browser.js("document.getElementById('link').value")))
-        check.equal(screen, check.shown(console), "four lines in Firefox")
-        solve(check, browser)
-        for view in VIEWS:
-            browser.click(f"#tab-{view}")
-            time.sleep(0.4)
-            tall = browser.js("document.documentElement.scrollHeight")
-            check.equal(tall <= 800, True, f"{view}: above the fold")
-            browser.picture(check.pictures / f"firefox-{view}.png")
+        check = Check(browser, page, program, image, folder, "firefox-")
+        check.start(check.address, 1280)
+        check.to_terminal()
+        for part in (check.lines, check.above_the_fold, check.pipes, check.waits, check.travels, check.breaks, check.crashes, check.exercises):
+            part()
+        check.start(check.address, 1280)
+        check.accesses()
+        looks(check, address)
 
 
 def main():
     page, program, image, folder = sys.argv[1:]
-    pathlib.Path(folder).mkdir(parents=True, exist_ok=True)
+    for one in (pathlib.Path(folder), KEPT):
+        one.mkdir(parents=True, exist_ok=True)
     with Browser() as browser:
         check = Check(browser, page, program, image, folder)
         try:
@@ -799,7 +888,10 @@ def main():
             wide(check)
             for width in WIDTHS:
                 use(check, width)
-            firefox(check, image)
+            address = check.still()
+            names = looks(check, address)
+            firefox(page, program, image, folder, address)
+            compare(check, names)
         except (TimeoutError, SystemExit):
             browser.picture(check.pictures / "failed.png")
             print(f"see {check.pictures / 'failed.png'}; the page complains: {browser.faults}", file=sys.stderr)

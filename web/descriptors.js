@@ -1,5 +1,5 @@
-// The descriptors and pipes of a machine, as its library shows them, and the programs that processes began.
-import { EXEC, FORK } from "./calls.js";
+// The descriptors and pipes of a machine, as its library shows them, what processes wait for, and the programs that they began.
+import { EXEC, FORK, SLEEP, WAIT } from "./calls.js";
 
 const ROOM = 512; // bytes of a pipe
 const ENDS = { "read-end": "readers", "write-end": "writers" };
@@ -29,6 +29,25 @@ export function pipesOf(machine, processes) {
   for (const { pid, state } of processes) if (state !== "ended") addEnds(pipes, heldBy(machine, pid));
   const all = [...pipes.values()].sort((one, two) => one.number - two.number);
   return all.map((pipe) => ({ ...pipe, bytes: machine.pipe(pipe.number), room: ROOM }));
+}
+
+// What a read or a write waits for: who holds the other end of a pipe could end that, or else a typed line.
+function waitAtPipe(machine, processes, { kind, number }) {
+  const pipe = kind in ENDS ? pipesOf(machine, processes).find((one) => one.number === number) : null;
+  if (!pipe) return { kind: "console" };
+  const holders = kind === "read-end" ? pipe.writers : pipe.readers;
+  return { kind: kind === "read-end" ? "bytes" : "room", pipe: number, pids: holders.map(({ pid }) => pid) };
+}
+
+/** What a process waits for, and the pids of those who could end that by what they do next; `null` where it doesn't wait. */
+export function waitOf(machine, processes, pid) {
+  const waiting = machine.waiting(pid);
+  if (!waiting) return null;
+  const { call, first, since } = waiting;
+  if (call === WAIT) return { kind: "child", pids: processes.filter(({ parent }) => parent === pid).map((child) => child.pid) };
+  if (call === SLEEP) return { kind: "ticks", tick: (since + Math.max(0, first)) >>> 0 };
+  const held = machine.awaited(pid);
+  return held ? waitAtPipe(machine, processes, held) : { kind: "call", call };
 }
 
 /** The path of an inode; empty where no name leads there. */

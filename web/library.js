@@ -5,6 +5,7 @@ import { say } from "./words.js";
 const MOST_PROGRAM = 274_432; // bytes
 const MOST_REPORT = 1 << 20;
 const NO_MEMORY = 4;
+const MOST_LOCATION = 4096;
 const ENTRY_SIZE = 24;
 const KINDS = { dir: 1, file: 2, dev: 3 };
 
@@ -77,6 +78,14 @@ function assembleLarge({ heap, calls }, text) {
  * line, address and text; and what is wrong with it, each with line, column (0: the whole line) and text.
  */
 export const assemble = (module, language, text) => (language === "as" ? assembleLarge : assembleSmall)(module, text);
+
+/** What a program's file says of an address, as `sum+0x10 (oops.c:4)`; empty where it says nothing of it. */
+export function locate({ heap, calls }, file, address) {
+  return withBlocks(heap, [file, MOST_LOCATION, 8], (at, out, count) => {
+    refuse(calls.xv6_raw_locate(...big(at, file.length), BigInt.asUintN(64, address), ...big(out, MOST_LOCATION, count)));
+    return textAt(heap, out, Math.min(numberAt(heap, count), MOST_LOCATION));
+  });
+}
 
 /** An image with one more file, or with another one at its path. */
 export function put({ heap, calls }, image, path, bytes) {

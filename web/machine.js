@@ -20,6 +20,9 @@ const OPENED = ["", "file", "console", "device", "read-end", "write-end"];
 const DESCRIPTORS = 16;
 const DESCRIPTOR_SIZE = 32;
 const WALK_SIZE = 32;
+const SINCE = 32; // where a wait has the count of ticks
+const READ = 5;
+const WRITE = 16;
 
 /** Why a machine stops. */
 export class Halt extends Error {
@@ -238,10 +241,18 @@ export class Machine {
     return Array.from({ length: DESCRIPTORS }, (_, number) => this.descriptor(pid, number)).filter((one) => one);
   }
 
-  /** The descriptor that a process waits at, of `read` and `write`. */
+  /** The call that a process waits in, its first argument, and the count of ticks as it began; `null` where it waits in none. */
+  waiting(pid) {
+    const process = this.process(pid);
+    if (process?.state !== "waiting" || this.calls.xv6_raw_wait(this.handle, pid, this.roomAt)) return null;
+    const { view } = this.heap;
+    return { call: process.call, first: view.getInt32(this.room, true), since: view.getUint32(this.room + SINCE, true) };
+  }
+
+  /** The descriptor that a process waits at, in `read` or `write`; `null` where it waits at none. */
   awaited(pid) {
-    if (this.calls.xv6_raw_wait(this.handle, pid, this.roomAt)) return null;
-    return this.descriptor(pid, this.heap.view.getInt32(this.room, true));
+    const waiting = this.waiting(pid);
+    return waiting && [READ, WRITE].includes(waiting.call) ? this.descriptor(pid, waiting.first) : null;
   }
 
   /** The bytes in a pipe; `null` where there is no such pipe. */
@@ -281,6 +292,16 @@ export class Machine {
 
   freeFrames() {
     return this.calls.xv6_raw_free_frames(this.handle);
+  }
+
+  /** How many ticks the machine has had since it started: what `uptime` returns. */
+  ticks() {
+    return this.calls.xv6_raw_ticks(this.handle) >>> 0;
+  }
+
+  /** The pid that the next fork gives. */
+  comingPid() {
+    return this.calls.xv6_raw_coming_pid(this.handle) >>> 0;
   }
 
   /** A node of the disk; `null` where there is none. */

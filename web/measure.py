@@ -1,6 +1,7 @@
 #!/usr/bin/env python3
-"""measure.py PAGE PROGRAM IMAGE: how large the page and its module are, how long a boot and the way back take there, and how many steps a
-second a loop with a load and a store makes: in the browser, and by PROGRAM, the built xv6, beside it. Rates are medians of long runs."""
+"""measure.py PAGE PROGRAM IMAGE: how large the page and its module are, how long the first prompt, a boot and the way back take there, and how
+many steps a second a loop with a load and a store makes: in the browser, and by PROGRAM, the built xv6, beside it. Rates are medians of long
+runs."""
 import json
 import pathlib
 import re
@@ -27,6 +28,7 @@ MANY = 10_000_000
 PART = 100_000
 TIMES = 5
 BOOT_TIMES = 100
+LOADS = 5
 
 MEASURE = """(async () => {
 UNPACK
@@ -95,11 +97,14 @@ def in_browser(page, loop):
     for name, value in {"LOOP_IMAGE": json.dumps(list(loop)), "BOOT_TIMES": BOOT_TIMES, "ALL_EVENTS": MANY, "SOME_EVENTS": PART}.items():
         text = re.sub(rf"\b{name}\b", str(value), text)
     with Browser() as browser:
-        browser.open(pathlib.Path(page).resolve().as_uri())
-        browser.wait("document.getElementById('screen').textContent.endsWith('$ ')", "the first prompt")
+        prompts = []
+        for _ in range(LOADS):
+            browser.open(pathlib.Path(page).resolve().as_uri())
+            browser.wait("performance.getEntriesByName('prompt').length === 1", "the first prompt")
+            prompts.append(browser.js("performance.getEntriesByName('prompt')[0].startTime"))
         browser.click("#run")
         browser.call("Performance.enable", timeDomain="threadTicks")
-        got = browser.js(text)
+        got = {**browser.js(text), "prompt": min(prompts)}
         got["plain"] = rate(browser, f"spin.steps({STEPS})", STEPS)
         got["noted"] = rate(browser, f"noted.run(spin, noted.to, {FEW}, () => {{}})", FEW)
         return got
@@ -113,6 +118,7 @@ def main():
         got = in_browser(page, image_of_loop(program, folder))
         native = native_rate(program, folder)
     print(f"page {pathlib.Path(page).stat().st_size} bytes, module {got['module']}, image {pathlib.Path(image).stat().st_size}")
+    print(f"first prompt {got['prompt']:.0f} ms after the load begins, the best of {LOADS}")
     print(f"module compiled in {got['compiled']:.1f} ms; first boot in {got['first']:.1f} ms, best of {BOOT_TIMES} {got['boot']:.1f}")
     print(f"{MANY} steps replayed in {got['whole']:.0f} ms with {got['copies']} copies kept; back by one in {got['back']:.1f} ms at most")
     rates = [got["plain"], got["noted"], native]

@@ -1,4 +1,4 @@
-// The names of the programs that processes run: those of the files whose bytes are in their memory.
+// The programs that processes run, those of the files whose bytes are in their memory, and the names of their addresses.
 
 const FIRST_HEADER = 64;
 const LOADED = 1;
@@ -19,15 +19,18 @@ export function firstPart(bytes, most = MOST) {
   return null;
 }
 
-function programsIn(machine, directory, all, depth) {
-  for (const file of machine.names(directory)) {
-    const bytes = file.kind === "file" ? machine.read(file.inode) : null;
-    const part = bytes && isProgram(bytes) ? firstPart(bytes) : null;
-    if (part) all.push({ name: file.name, ...part });
-    if (file.kind === "directory" && depth > 0) programsIn(machine, file.inode, all, depth - 1);
+function programsIn(machine, directory, above, all, depth) {
+  for (const { name, kind, inode } of machine.names(directory)) {
+    const path = `${above}/${name}`;
+    const file = kind === "file" ? machine.read(inode) : null;
+    const part = file && isProgram(file) ? firstPart(file) : null;
+    if (part) all.push({ name, path, file, places: new Map(), ...part });
+    if (kind === "directory" && depth > 0) programsIn(machine, inode, path, all, depth - 1);
   }
   return all;
 }
+
+const fromRoot = (path) => `/${path.replace(/^(\.?\/)+/, "")}`;
 
 function sameBytes(one, two) {
   let same = 0;
@@ -35,9 +38,10 @@ function sameBytes(one, two) {
   return same;
 }
 
-/** The names of programs. Those of a disk are looked up anew after `forget`. */
+/** The programs of a disk, which are looked up anew after `forget`. `locate(file, address)` is what a file says of an address. */
 export class Names {
-  constructor() {
+  constructor(locate) {
+    this.locate = locate;
     this.programs = null;
   }
 
@@ -45,16 +49,32 @@ export class Names {
     this.programs = null;
   }
 
-  /** The name of the program whose bytes a process has; empty where no file has them. */
-  of(machine, pid) {
-    this.programs ??= programsIn(machine, undefined, [], 3);
-    let [best, most] = ["", LEAST - 1];
+  all(machine) {
+    this.programs ??= programsIn(machine, undefined, "", [], 3);
+    return this.programs;
+  }
+
+  /** The program whose bytes a process has; `null` where no file has them. */
+  programOf(machine, pid) {
+    let [best, most] = [null, LEAST - 1];
     const pages = new Map();
-    for (const { name, page, bytes } of this.programs) {
+    for (const program of this.all(machine)) {
+      const { page, bytes } = program;
       if (!pages.has(page)) pages.set(page, machine.page(pid, page)?.bytes ?? new Uint8Array());
       const same = sameBytes(bytes, pages.get(page));
-      if (same > most) [best, most] = [name, same];
+      if (same > most) [best, most] = [program, same];
     }
     return best;
+  }
+
+  /** The program of a path, which is one from the root if it begins with no slash; `null` where there is none. */
+  programAt(machine, path) {
+    return this.all(machine).find((program) => program.path === fromRoot(path)) ?? null;
+  }
+
+  /** What a program says of an address, as `sum+0x10 (oops.c:4)`; empty where it says nothing of it. */
+  placeIn(program, address) {
+    if (!program.places.has(address)) program.places.set(address, this.locate(program.file, address));
+    return program.places.get(address);
   }
 }

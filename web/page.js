@@ -1,6 +1,6 @@
 // The page: a machine, what it is given by buttons and keys, and what is shown of it in three views over one line of time.
 import { countsText, drawBar, positionAt, positionText } from "./bar.js";
-import { programOf } from "./descriptors.js";
+import { programOf, waitOf } from "./descriptors.js";
 import { Disk } from "./disk.js";
 import { blockAt, showBlock, showBlocks, showInodes, showMap, showMapLegend, showSuper } from "./diskview.js";
 import { REGISTERS } from "./disassembly.js";
@@ -10,7 +10,7 @@ import { faultOf } from "./faults.js";
 import { Exercises } from "./exercises.js";
 import { Upload, showFiles } from "./files.js";
 import { addressOf, showDescriptors, showPipes, showWalk } from "./inside.js";
-import { canWrite, put } from "./library.js";
+import { canWrite, locate, put } from "./library.js";
 import { loadModule } from "./machine.js";
 import { Names } from "./names.js";
 import { eventsOf, markOf, packText, sessionOf, toFragment, unpackText, wordsOf } from "./record.js";
@@ -45,7 +45,7 @@ class Page {
     this.module = module;
     this.firstImage = image;
     this.image = image;
-    this.names = new Names();
+    this.names = new Names((file, address) => locate(module, file, address));
     this.chosen = 1;
     this.address = { text: "pc", page: 0 };
     this.block = FIRST_BLOCK;
@@ -391,21 +391,46 @@ class Page {
   showFault() {
     const { faults } = this.driver.calls;
     const last = faults.findLast(({ at }) => at < this.driver.position);
-    byId("fault").textContent = last ? say("fault-ended", { pid: last.pid, text: last.text }) : "";
+    byId("fault").textContent = last ? say("fault-ended", { pid: last.pid, text: this.faultText(last) }) : "";
     byId("fault").hidden = !last;
   }
 
-  nameOf(pid) {
+  // A fault, with the function and the line that the program's file has for its pc.
+  faultText({ pid, pc, text }) {
+    const place = this.placeOf(pid, pc);
+    return place ? say("fault-in", { text, place }) : text;
+  }
+
+  // The path that a process gave to exec last, if all calls are known.
+  pathOf(pid) {
     const { calls, position } = this.driver;
-    const path = calls.from === 0 && calls.knows(position) ? programOf(calls, pid, position) : null;
-    return path ? path.split("/").at(-1) : this.names.of(this.driver.machine, pid);
+    return calls.from === 0 && calls.knows(position) ? programOf(calls, pid, position) : null;
+  }
+
+  nameOf(pid) {
+    const path = this.pathOf(pid);
+    return path ? path.split("/").at(-1) : (this.names.programOf(this.driver.machine, pid)?.name ?? "");
+  }
+
+  // What the program of a process says of an address; empty where it says nothing of it.
+  placeOf(pid, address) {
+    const { machine } = this.driver;
+    const path = this.pathOf(pid);
+    const program = path ? this.names.programAt(machine, path) : this.names.programOf(machine, pid);
+    return program ? this.names.placeIn(program, address) : "";
   }
 
   showRun() {
     const { machine } = this.driver;
     const processes = machine.processes();
     const process = this.chooseAmong(processes);
-    showProcesses(byId("processes"), processes, (pid) => this.nameOf(pid), process?.pid, (pid) => this.chooseByHand(pid));
+    showProcesses(byId("processes"), processes, {
+      nameOf: (pid) => this.nameOf(pid),
+      waitOf: (pid) => waitOf(machine, processes, pid),
+      chosen: process?.pid,
+      choose: (pid) => this.chooseByHand(pid),
+    });
+    byId("coming").textContent = say("coming", { ticks: counted(machine.ticks(), "count-tick"), pid: machine.comingPid() });
   }
 
   showInside() {
@@ -419,10 +444,12 @@ class Page {
     showPids(byId("pids"), processes, nameOf, process.pid);
     this.keepRegisters(process);
     showRegisters(byId("registers"), process, this.registers.before);
-    showCode(byId("code"), machine, process, driver.breaks, (address) => this.toggleBreak(address));
+    const placeOf = (address) => this.placeOf(process.pid, address);
+    showCode(byId("code"), machine, process, { breaks: driver.breaks, placeOf, toggle: (address) => this.toggleBreak(address) });
     const fault = process.state === "waiting" || process.state === "ended" ? null : faultOf(machine, process);
-    byId("next-fault").textContent = fault ? say("next-fault", { text: fault }) : "";
-    showCalls(byId("calls"), calls.of(process.pid, position), calls.faults.filter(({ pid, at }) => pid === process.pid && at < position));
+    byId("next-fault").textContent = fault ? say("next-fault", { text: this.faultText({ ...process, text: fault }) }) : "";
+    const faults = calls.faults.filter(({ pid, at }) => pid === process.pid && at < position);
+    showCalls(byId("calls"), calls.of(process.pid, position), faults.map((one) => ({ at: one.at, text: this.faultText(one) })));
     this.showHeld(processes, process, nameOf);
     this.showMemory(process, processes);
   }

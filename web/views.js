@@ -1,5 +1,5 @@
 // What the page shows of a machine: its processes, and of one of them the registers, the instructions, the calls and the pages.
-import { callText, waitsFor } from "./calls.js";
+import { callName, callText } from "./calls.js";
 import { REGISTERS, disassemble } from "./disassembly.js";
 import { button, element, replace, stopAtOne } from "./elements.js";
 import { PAGE, wordAt } from "./memory.js";
@@ -13,12 +13,17 @@ const ROW = 16;
 
 export const digits = (value, count) => value.toString(16).padStart(count, "0");
 
-/** What a process is doing, in words. */
-export function stateText(process) {
+// What a process waits for, in words, and who could end that.
+function waitText({ kind, pipe, pids = [], tick, call }) {
+  return say(`waits-${kind}`, { pipe, pids: pids.join(", "), tick, call: call === undefined ? "" : callName(call) });
+}
+
+/** What a process is doing, in words; `wait` is what it waits for. */
+export function stateText(process, wait) {
   const killed = process.killed ? `, ${say("killed")}` : "";
   switch (process.state) {
     case "waiting":
-      return waitsFor(process) + killed;
+      return (wait ? waitText(wait) : say("waiting")) + killed;
     case "ended":
       return say("ended-with", { status: process.status });
     default:
@@ -38,8 +43,8 @@ function asTree(processes) {
   return rows;
 }
 
-/** The processes as a tree. `nameOf(pid)` is the name of its program; a press of one's button calls `choose(pid)`. */
-export function showProcesses(body, processes, nameOf, chosen, choose) {
+/** The processes as a tree. `nameOf(pid)` is the name of its program, `waitOf(pid)` what it waits for; a press of one calls `choose(pid)`. */
+export function showProcesses(body, processes, { nameOf, waitOf, chosen, choose }) {
   const buttons = [];
   const rows = asTree(processes).map(({ process, depth }) => {
     const { pid } = process;
@@ -47,7 +52,8 @@ export function showProcesses(body, processes, nameOf, chosen, choose) {
     const pressed = button({ id: `pid-${pid}`, "aria-pressed": isChosen }, `${pid} ${nameOf(pid)}`.trim(), () => choose(pid));
     buttons.push(pressed);
     const name = element("td", { style: `padding-left: ${0.3 + 1.2 * depth}em` }, depth > 0 ? "└ " : "", pressed);
-    return element("tr", { class: isChosen ? "chosen" : "", "data-state": process.state }, name, element("td", { class: "state" }, stateText(process)));
+    const state = element("td", { class: "state" }, stateText(process, waitOf(pid)));
+    return element("tr", { class: isChosen ? "chosen" : "", "data-state": process.state }, name, state);
   });
   stopAtOne(buttons, buttons.find((one) => one.id === `pid-${chosen}`));
   replace(body, rows);
@@ -68,8 +74,17 @@ export function showRegisters(list, process, before) {
   replace(list, items);
 }
 
-/** The instructions around the pc. A press of one calls `toggle(address)`, which sets a breakpoint or takes it away. */
-export function showCode(list, machine, process, breaks, toggle) {
+// Where an instruction is: its function and line at the pc, and the name of a function where one begins.
+function placeItems(place, isCurrent) {
+  const isStart = place !== "" && !/\+0x[0-9a-f]+(?: \(|$)/.test(place);
+  return isCurrent || isStart ? [element("em", {}, place)] : [];
+}
+
+/**
+ * The instructions around the pc, with what `placeOf(address)` says. A press of one calls `toggle(address)`, which sets a breakpoint or takes
+ * it away.
+ */
+export function showCode(list, machine, process, { breaks, placeOf, toggle }) {
   const items = [];
   const buttons = [];
   for (let position = -BEFORE; position <= AFTER; position += 1) {
@@ -82,7 +97,8 @@ export function showCode(list, machine, process, breaks, toggle) {
     const mark = button(words, isBroken ? "●" : "○", () => toggle(Number(address)));
     buttons.push(mark);
     const current = position === 0 ? { class: "current", "aria-current": "true" } : {};
-    items.push(element("li", current, mark, element("i", {}, `${digits(address, 5)}  `), word === null ? say("no-instruction") : disassemble(word)));
+    const text = word === null ? say("no-instruction") : disassemble(word);
+    items.push(element("li", current, mark, element("i", {}, `${digits(address, 5)}  `), text, ...placeItems(placeOf(address), position === 0)));
   }
   stopAtOne(buttons, buttons.find((one) => one.id === "code-0"));
   replace(list, items);

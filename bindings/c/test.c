@@ -1,8 +1,10 @@
 /* test.c IMAGE SCRIPT: a session with each function of xv6.h, 40 machines at once, copies, and arguments that are wrong. The console's bytes go to
    standard output, and the events of the session to SCRIPT: `xv6 run --frames 256 IMAGE SCRIPT` has to print the same bytes.
+   Each call is made in a thread with a stack of 256 kB, except those that build a machine, which are made in one of 1 MB.
    make check-library runs it under valgrind. The status is 0 where all is as it has to be. */
 #include "xv6.h"
 
+#include <pthread.h>
 #include <stdio.h>
 #include <stdlib.h>
 #include <string.h>
@@ -31,6 +33,76 @@ static int read_image(const char *name)
     image = malloc(length);
     if (image == NULL || fread(image, 1, length, file) != length) return 0;
     return fclose(file) == 0;
+}
+
+/* ---- threads */
+
+#define SMALL_STACK (256u * 1024u)
+#define LARGE_STACK (1024u * 1024u)
+
+/* Makes a call in a thread with a stack of so many bytes. */
+static void in_thread(size_t stack, void *(*call)(void *), void *words)
+{
+    pthread_attr_t how;
+    pthread_t thread;
+    if (pthread_attr_init(&how) != 0 || pthread_attr_setstacksize(&how, stack) != 0 || pthread_create(&thread, &how, call, words) != 0) {
+        fprintf(stderr, "test.c: no thread\n");
+        exit(2);
+    }
+    must(pthread_join(thread, NULL) == 0, "a thread ends");
+    pthread_attr_destroy(&how);
+}
+
+/* A call that builds a machine, and what it answers. */
+struct building {
+    const uint8_t *bytes;
+    uint8_t *room;
+    size_t many;
+    uint32_t frames, answer;
+    struct xv6_machine *source, *out;
+    struct xv6_space *space;
+};
+
+static void *do_boot(void *words)
+{
+    struct building *it = words;
+    it->answer = xv6_boot(it->bytes, it->many, it->frames, it->out);
+    return NULL;
+}
+
+static void *do_copy(void *words)
+{
+    struct building *it = words;
+    it->answer = xv6_copy(it->source, it->out);
+    return NULL;
+}
+
+static void *do_free_space(void *words)
+{
+    struct building *it = words;
+    it->answer = xv6_free_space(it->source, it->room, it->many, it->space);
+    return NULL;
+}
+
+static uint32_t boot(const uint8_t *bytes, size_t many, uint32_t frames, struct xv6_machine *out)
+{
+    struct building it = {bytes, NULL, many, frames, 0, NULL, out, NULL};
+    in_thread(LARGE_STACK, do_boot, &it);
+    return it.answer;
+}
+
+static uint32_t copy(struct xv6_machine *source, struct xv6_machine *out)
+{
+    struct building it = {NULL, NULL, 0, 0, 0, source, out, NULL};
+    in_thread(LARGE_STACK, do_copy, &it);
+    return it.answer;
+}
+
+static uint32_t free_space(struct xv6_machine *source, uint8_t *room, size_t many, struct xv6_space *out)
+{
+    struct building it = {NULL, room, many, 0, 0, source, NULL, out};
+    in_thread(LARGE_STACK, do_free_space, &it);
+    return it.answer;
 }
 
 /* ---- a session */
@@ -67,6 +139,7 @@ static size_t print_console(struct xv6_machine *machine, FILE *out)
 static void look_at_processes(struct xv6_machine *machine)
 {
     struct xv6_process process;
+    struct xv6_name name;
     uint8_t page[4096], few[4] = {9, 9, 9, 9};
     must(xv6_next_pid(machine, 0) == 1, "process 1 is the first");
     must(xv6_process(machine, 1, &process) == 0 && process.pid == 1 && process.parent == 0, "process 1 is reported");
@@ -78,7 +151,10 @@ static void look_at_processes(struct xv6_machine *machine)
     must(memcmp(page + process.pc % 4096 - 4, "\x73\0\0\0", 4) == 0, "an ecall is before its pc");
     must(xv6_page(machine, 2, process.size / 4096 - 2, few, 0) == XV6_PAGE, "the page below the stack can't be touched");
     must(xv6_page(machine, 2, process.pc / 4096, few, 2) != 0 && memcmp(few, page, 2) == 0 && few[2] == 9, "two bytes of a page");
-    must(xv6_page(machine, 2, process.size / 4096, few, sizeof few) == 0 && few[2] == 9, "no page behind the last");
+    must(xv6_page(machine, 2, process.size / 4096, few, sizeof few) == 0 && few[2] == 9, "no page after the last");
+    must(xv6_program(machine, 1, &name) == 0 && strcmp(name.text, "init") == 0, "process 1 is init");
+    must(xv6_program(machine, 2, &name) == 0 && strcmp(name.text, "sh") == 0, "process 2 is sh");
+    must(xv6_could_end(machine, 1, 2) == 1 && xv6_could_end(machine, 2, 1) == 0, "process 1 waits for the shell");
 }
 
 /* The number of a name of 14 bytes at most in the root's directory; 0 where there is none. */
@@ -133,7 +209,7 @@ static void save_and_boot(struct xv6_machine *machine)
     size_t bytes = 0;
     must(saved != NULL && xv6_save(machine, saved, length, &bytes) == 0 && bytes == length, "the image is saved");
     must(machine->inside == NULL, "a saved machine is closed");
-    must(xv6_boot(saved, length, FRAMES, &again) == 0 && find(&again, "d") != 0, "the saved image boots");
+    must(boot(saved, length, FRAMES, &again) == 0 && find(&again, "d") != 0, "the saved image boots");
     xv6_close(&again);
     free(saved);
 }
@@ -142,17 +218,21 @@ static void play(FILE *script)
 {
     static const char *const lines[] = {"ls", "echo hi | cat", "mkdir d", "ls d", "nope"};
     struct xv6_machine machine = {NULL};
+    struct xv6_space before, after;
+    uint8_t *room = malloc(length);
     uint32_t done, free_frames;
     size_t i;
     must(xv6_version() == XV6_VERSION, "the version");
-    must(xv6_boot(image, length, FRAMES, &machine) == 0, "the image boots");
+    must(boot(image, length, FRAMES, &machine) == 0, "the image boots");
     run(&machine, script);
     free_frames = xv6_free_frames(&machine);
     must(free_frames > 0 && free_frames < FRAMES, "free frames");
+    must(xv6_ticks(&machine) == 0 && xv6_coming_pid(&machine) == 3, "no tick, and process 3 comes next");
+    must(room != NULL && free_space(&machine, room, length, &before) == 0, "free space");
     for (i = 0; i < sizeof lines / sizeof *lines; i++) {
         must(xv6_is_idle(&machine) == 1, "nobody is ready before a line");
         type(&machine, script, lines[i]);
-        must(xv6_is_idle(&machine) == 0, "somebody is ready behind it");
+        must(xv6_is_idle(&machine) == 0, "somebody is ready after it");
         must(xv6_steps(&machine, 17) == 0, "17 steps");
         must(xv6_tick(&machine) == 0, "a tick");
         fprintf(script, "step 17\ntick 1\n");
@@ -160,6 +240,11 @@ static void play(FILE *script)
     }
     must(xv6_run(&machine, MANY, &done) == 0 && done == 0, "nobody is ready");
     must(xv6_free_frames(&machine) == free_frames, "all frames came back");
+    must(xv6_ticks(&machine) == 5 && xv6_coming_pid(&machine) == 9, "five ticks and six children came");
+    must(free_space(&machine, room, length, &after) == 0, "free space again");
+    must(after.blocks + 1 == before.blocks && after.inodes + 1 == before.inodes, "a directory takes a block and an inode");
+    must(free_space(&machine, room, length - 1, &before) == XV6_IMAGE_LENGTH && before.blocks != after.blocks, "too little room");
+    free(room);
     must(print_console(&machine, stdout) > 100, "the console's bytes");
     look_at_processes(&machine);
     look_at_descriptors(&machine);
@@ -175,7 +260,7 @@ static void play_many(void)
     uint32_t done;
     size_t bytes[MACHINES];
     int i;
-    for (i = 0; i < MACHINES; i++) must(xv6_boot(image, length, 64, &machines[i]) == 0, "each of 40 boots");
+    for (i = 0; i < MACHINES; i++) must(boot(image, length, 64, &machines[i]) == 0, "each of 40 boots");
     for (i = 0; i < MACHINES; i++) {
         must(xv6_run(&machines[i], MANY, &done) == 0, "each of 40 runs");
         if (i % 2 == 0) must(xv6_key(&machines[i], 'x') == 0, "a key for every second");
@@ -206,10 +291,10 @@ static void play_copies(int source_goes_first)
     uint32_t done;
     size_t bytes;
     int i;
-    must(xv6_boot(image, length, FRAMES, &source) == 0 && xv6_run(&source, MANY, &done) == 0, "a machine that is copied");
+    must(boot(image, length, FRAMES, &source) == 0 && xv6_run(&source, MANY, &done) == 0, "a machine that is copied");
     must(xv6_key(&source, 'l') == 0 && xv6_key(&source, 's') == 0 && xv6_key(&source, '\n') == 0, "its line");
     must(xv6_steps(&source, 300) == 0, "it is at its line");
-    must(xv6_copy(&source, &twin) == 0 && xv6_copy(&source, &other) == 0, "two copies");
+    must(copy(&source, &twin) == 0 && copy(&source, &other) == 0, "two copies");
     must(twin.inside != NULL && twin.inside != source.inside && are_alike(&twin, &source), "a copy is like its source");
     must(xv6_tick(&other) == 0 && xv6_steps(&other, 300) == 0, "one copy goes on");
     must(are_alike(&twin, &source) && !are_alike(&other, &source), "the others stay");
@@ -231,15 +316,15 @@ static void play_copies(int source_goes_first)
 static void copy_stopped(void)
 {
     static const char line[] = "kill 1\n";
-    struct xv6_machine machine = {NULL}, copy = {NULL};
+    struct xv6_machine machine = {NULL}, twin = {NULL};
     uint8_t *saved = malloc(length), *other = malloc(length);
     uint32_t done;
     size_t i, bytes = 0;
-    must(saved != NULL && other != NULL && xv6_boot(image, length, FRAMES, &machine) == 0, "the image boots for a kill");
+    must(saved != NULL && other != NULL && boot(image, length, FRAMES, &machine) == 0, "the image boots for a kill");
     for (i = 0; line[i] != 0; i++) must(xv6_key(&machine, (uint8_t)line[i]) == 0, "a key of a kill");
-    must(xv6_run(&machine, MANY, &done) == XV6_INIT_ENDED && xv6_copy(&machine, &copy) == 0, "a copy after the end");
-    must(xv6_tick(&machine) == XV6_HALTED && xv6_tick(&copy) == XV6_HALTED && are_alike(&copy, &machine), "both have stopped");
-    must(xv6_save(&copy, other, length, &bytes) == 0 && bytes == length, "the copy is saved");
+    must(xv6_run(&machine, MANY, &done) == XV6_INIT_ENDED && copy(&machine, &twin) == 0, "a copy after the end");
+    must(xv6_tick(&machine) == XV6_HALTED && xv6_tick(&twin) == XV6_HALTED && are_alike(&twin, &machine), "both have stopped");
+    must(xv6_save(&twin, other, length, &bytes) == 0 && bytes == length, "the copy is saved");
     must(xv6_save(&machine, saved, length, &bytes) == 0 && bytes == length, "its source is saved");
     must(memcmp(saved, other, length) == 0, "both images are the same");
     free(saved);
@@ -292,6 +377,24 @@ static uint32_t go_by_calls(struct xv6_machine *machine, uint64_t *stops, size_t
     return done;
 }
 
+/* Two programs at the ends of a pipe: the second waits for the first, and the first for what is typed. */
+static void wait_at_pipe(void)
+{
+    static const char line[] = "cat | cat\n";
+    struct xv6_machine machine = {NULL};
+    struct xv6_name name;
+    struct xv6_wait wait;
+    uint32_t done;
+    size_t i;
+    must(boot(image, length, FRAMES, &machine) == 0 && xv6_run(&machine, MANY, &done) == 0, "a machine with a pipe");
+    for (i = 0; line[i] != 0; i++) must(xv6_key(&machine, (uint8_t)line[i]) == 0, "a key of two programs");
+    must(xv6_run(&machine, MANY, &done) == 0 && xv6_wait(&machine, 4, &wait) == 0 && wait.arguments[0] == 0, "the second waits");
+    must(xv6_program(&machine, 4, &name) == 0 && strcmp(name.text, "cat") == 0, "it is cat");
+    must(xv6_could_end(&machine, 4, 3) == 1 && xv6_could_end(&machine, 4, 2) == 0, "the first could end that");
+    must(xv6_could_end(&machine, 3, 4) == 0 && xv6_could_end(&machine, 2, 3) == 1 && xv6_could_end(&machine, 2, 4) == 1, "and the shell's wait");
+    xv6_close(&machine);
+}
+
 static void watch(void)
 {
     static const char line[] = "echo hi | cat\n";
@@ -300,9 +403,9 @@ static void watch(void)
     uint64_t digest = 0, other = 0;
     uint32_t done;
     size_t i;
-    must(xv6_boot(image, length, FRAMES, &machine) == 0 && xv6_run(&machine, MANY, &done) == 0, "a machine that is watched");
+    must(boot(image, length, FRAMES, &machine) == 0 && xv6_run(&machine, MANY, &done) == 0, "a machine that is watched");
     for (i = 0; line[i] != 0; i++) must(xv6_key(&machine, (uint8_t)line[i]) == 0, "a key of a pipe");
-    must(xv6_copy(&machine, &twin) == 0, "a copy of it");
+    must(copy(&machine, &twin) == 0, "a copy of it");
     must(xv6_digest(&machine, &digest) == 0 && xv6_digest(&twin, &other) == 0 && digest == other, "the same state, the same digest");
     must(xv6_run(&twin, MANY, &done) == 0 && go_by_calls(&machine, NULL, 0) == done, "from call to call it is as many steps");
     must(xv6_digest(&machine, &digest) == 0 && xv6_digest(&twin, &other) == 0 && digest == other, "and leaves the same state");
@@ -310,7 +413,7 @@ static void watch(void)
     for (i = 0; line[i] != 0; i++) must(xv6_key(&machine, (uint8_t)line[i]) == 0, "the keys again");
     must(xv6_steps(&machine, 1) == 0 && xv6_process(&machine, xv6_running(&machine), &process) == 0, "the shell runs");
     must(xv6_compute(&machine, 100, &process.pc, 0) > 2 && xv6_process(&machine, 2, &process) == 0, "the shell computes");
-    must(xv6_copy(&machine, &probe) == 0 && xv6_steps(&probe, 1) == 0 && xv6_compute(&probe, 1, NULL, 0) == 1, "a step after its call");
+    must(copy(&machine, &probe) == 0 && xv6_steps(&probe, 1) == 0 && xv6_compute(&probe, 1, NULL, 0) == 1, "a step after its call");
     must(xv6_process(&probe, 2, &process) == 0 && xv6_steps(&machine, 1) == 0, "where that comes to");
     must(xv6_compute(&machine, 100, &process.pc, 1) == 1 && xv6_process(&machine, 2, &other_process) == 0, "to an address");
     must(other_process.pc == process.pc, "and no further");
@@ -326,12 +429,13 @@ static void run_to(void)
     static const char line[] = "echo hi | cat\n";
     struct xv6_machine machine = {NULL}, twin = {NULL};
     struct xv6_reached reached;
-    uint32_t done, all = 0, calls = 0, exits = 0;
+    struct xv6_process child;
+    uint32_t done, pid, all = 0, calls = 0, exits = 0;
     uint8_t bytes[16];
     size_t i;
-    must(xv6_boot(image, length, FRAMES, &machine) == 0 && xv6_run(&machine, MANY, &done) == 0, "a machine that runs to something");
+    must(boot(image, length, FRAMES, &machine) == 0 && xv6_run(&machine, MANY, &done) == 0, "a machine that runs to something");
     for (i = 0; line[i] != 0; i++) must(xv6_key(&machine, (uint8_t)line[i]) == 0, "a key of it");
-    must(xv6_copy(&machine, &twin) == 0 && xv6_run(&twin, MANY, &done) == 0, "its twin");
+    must(copy(&machine, &twin) == 0 && xv6_run(&twin, MANY, &done) == 0, "its twin");
     do {
         must(xv6_run_to(&machine, XV6_TO_CALL | XV6_TO_FAULT | XV6_TO_EXIT, 0, MANY, &reached) == 0, "it runs to something");
         must(reached.what != XV6_TO_FAULT && (reached.what != XV6_TO_EXIT || reached.status == 0), "nothing of it is a fault");
@@ -342,7 +446,10 @@ static void run_to(void)
     must(all == done && are_alike(&machine, &twin), "it is as many steps");
     must(calls > 10 && exits == 2, "with calls, and two exits");
     for (i = 0; line[i] != 0; i++) must(xv6_key(&machine, (uint8_t)line[i]) == 0, "a key of it again");
-    must(xv6_run_to(&machine, XV6_TO_EXIT, 0, MANY, &reached) == 0 && reached.what == XV6_TO_EXIT && reached.pid > 2, "to an exit");
+    pid = xv6_coming_pid(&machine);
+    must(xv6_process(&machine, pid, &child) == XV6_NO_PROCESS, "no child yet");
+    must(xv6_run_to(&machine, XV6_TO_EXIT, 0, MANY, &reached) == 0 && reached.what == XV6_TO_EXIT && reached.pid == pid, "to an exit");
+    must(xv6_coming_pid(&machine) > pid, "the next child has another pid");
     must(xv6_run_to(&machine, XV6_TO_CALL, 2, MANY, &reached) == 0 && reached.pid == 2 && reached.call != 0, "to a call of the shell");
     must(xv6_run_to(&machine, XV6_TO_CALL, 0, 1, &reached) == 0 && reached.done == 1, "at most one step");
     must(xv6_run_to(&machine, XV6_TO_FAULT, 0, MANY, &reached) == 0 && reached.what == 0, "no fault");
@@ -355,9 +462,77 @@ static void run_to(void)
     xv6_close(&twin);
 }
 
+/* To an address: the first instruction of a program that the shell begins. */
+static void run_to_address(void)
+{
+    static const char line[] = "ls\n";
+    struct xv6_machine machine = {NULL};
+    struct xv6_reached reached = {0};
+    struct xv6_process child;
+    uint32_t done;
+    size_t i;
+    must(boot(image, length, FRAMES, &machine) == 0 && xv6_run(&machine, MANY, &done) == 0, "a machine that runs to an address");
+    for (i = 0; line[i] != 0; i++) must(xv6_key(&machine, (uint8_t)line[i]) == 0, "a key of a program");
+    must(xv6_run_to_address(&machine, 0, 3, MANY, &reached) == 0 && reached.what == XV6_TO_ADDRESS && reached.pid == 3, "to a program's begin");
+    must(xv6_process(&machine, 3, &child) == 0 && child.pc == 0 && reached.done > 100, "it is there");
+    must(xv6_run_to_address(&machine, 4, 0, 1, &reached) == 0 && reached.pid == 3 && reached.done == 1, "one instruction on");
+    must(xv6_run_to_address(&machine, 4, 2, MANY, &reached) == 0 && reached.pid == 2, "the shell comes there, too");
+    must(xv6_run_to_address(&machine, 0x123456, 0, MANY, &reached) == 0 && reached.what == 0, "nobody comes there");
+    must(xv6_run_to_address(NULL, 0, 0, 1, &reached) == XV6_NULL && xv6_run_to_address(&machine, 0, 0, 1, NULL) == XV6_NULL, "nulls of it");
+    xv6_close(&machine);
+}
+
+/* A process that is killed while it waits ends at its turn. */
+static void run_to_killed(void)
+{
+    static const char line[] = "kill 2\n";
+    struct xv6_machine machine = {NULL};
+    struct xv6_reached reached;
+    uint32_t done;
+    size_t i;
+    must(boot(image, length, FRAMES, &machine) == 0 && xv6_run(&machine, MANY, &done) == 0, "a machine whose shell is killed");
+    for (i = 0; line[i] != 0; i++) must(xv6_key(&machine, (uint8_t)line[i]) == 0, "a key of a kill");
+    must(xv6_run_to(&machine, XV6_TO_EXIT, 2, MANY, &reached) == 0 && reached.what == XV6_TO_EXIT && reached.pid == 2, "the shell's end");
+    must(reached.status == -1 && xv6_run_to(&machine, XV6_TO_EXIT, 0, MANY, &reached) == 0, "with status -1");
+    xv6_close(&machine);
+}
+
 /* ---- images and texts in memory */
 
 static const char program[] = "_start: addi a7, zero, 2\n addi a0, zero, 7\n ecall\n";
+/* A program's file that has nothing but a function's name: _start, of 8 bytes from address 0 on. */
+static uint8_t named_program[64 + 3 * 64 + 2 * 24 + 8];
+
+static void put_little(uint8_t *out, uint64_t value, size_t bytes)
+{
+    for (size_t index = 0; index < bytes; index++) out[index] = (uint8_t)(value >> (8 * index));
+}
+
+static void put_section(uint8_t *out, uint32_t type, const uint8_t *bytes, uint64_t size)
+{
+    put_little(out + 4, type, 4);
+    put_little(out + 24, (uint64_t)(bytes - named_program), 8);
+    put_little(out + 32, size, 8);
+    put_little(out + 40, 2, 4); /* the section of its names */
+    put_little(out + 56, 24, 8);
+}
+
+static void name_program(void)
+{
+    uint8_t *sections = named_program + 64, *symbols = sections + 3 * 64, *names = symbols + 2 * 24;
+    memcpy(named_program, "\x7f" "ELF\x02\x01\x01", 7);
+    put_little(named_program + 40, 64, 8); /* where the sections are */
+    put_little(named_program + 58, 64, 2);
+    put_little(named_program + 60, 3, 2);
+    put_section(sections + 64, 2, symbols, 2 * 24);
+    put_section(sections + 2 * 64, 3, names, 8);
+    put_little(symbols + 24, 1, 4); /* its name */
+    symbols[24 + 4] = 0x12; /* a global function */
+    put_little(symbols + 24 + 6, 1, 2);
+    put_little(symbols + 24 + 16, 8, 8);
+    memcpy(names + 1, "_start", 7);
+}
+
 static const char other_program[] = "_start:\n    li a0, 100000\n    li a7, 2\n    ecall\n";
 static const char wrong_program[] = "_start:\n    lli a0, 1\n    bee t0\n";
 static uint8_t made[64 * 1024], file[XV6_PROGRAM_BYTES], report[4096];
@@ -399,7 +574,8 @@ static void use_image(void)
     struct xv6_machine machine = {NULL};
     struct xv6_process ended;
     struct xv6_walk walk;
-    uint8_t few[4] = {9, 9, 9, 9}, lines[256], before[sizeof made];
+    static uint8_t before[sizeof made];
+    uint8_t few[4] = {9, 9, 9, 9}, lines[256];
     uint32_t done;
     size_t many = 0;
 #define PATH(text) (const uint8_t *)(text), sizeof(text) - 1
@@ -420,7 +596,7 @@ static void use_image(void)
     must(memcmp(before, made, sizeof made) == 0, "nothing is changed where it is refused");
     must(xv6_get(made, sizeof made, PATH("/none"), few, sizeof few, &many) == XV6_PATH_NOT_FOUND, "no file");
     must(xv6_list(made, sizeof made, PATH("/init"), lines, sizeof lines, &many) == XV6_PATH_NOT_DIRECTORY, "no directory");
-    must(xv6_boot(made, sizeof made, 64, &machine) == 0, "the image boots");
+    must(boot(made, sizeof made, 64, &machine) == 0, "the image boots");
     must(xv6_walk(&machine, 1, 0, &walk) == 0 && walk.count == 3, "the walk of address 0");
     must((walk.entries[0] & 31) == 1 && (walk.entries[1] & 31) == 1 && (walk.entries[2] & 31) == 31, "two tables and a leaf");
     must(xv6_walk(&machine, 1, (uint64_t)1 << 38, &walk) == 0 && walk.count == 0, "an address that is not canonical");
@@ -439,7 +615,7 @@ static void run_to_fault(void)
     struct xv6_reached reached;
     must(xv6_asm(PATH(text), file, sizeof file, &assembled) == 0, "a program that faults");
     must(xv6_put(made, sizeof made, PATH("/init"), file, assembled.bytes) == 0, "it is put");
-    must(xv6_boot(made, sizeof made, 64, &machine) == 0, "it boots");
+    must(boot(made, sizeof made, 64, &machine) == 0, "it boots");
     must(xv6_run_to(&machine, XV6_TO_FAULT, 1, MANY, &reached) == XV6_INIT_ENDED && reached.what == XV6_TO_FAULT, "to its fault");
     must(reached.fault.cause == XV6_LOAD_PAGE && reached.fault.address == 0x700000 && reached.fault.pc == 4, "which is a load's");
     xv6_close(&machine);
@@ -468,13 +644,21 @@ static void expand_texts(void)
     struct xv6_expanded told = {9, 9};
     struct xv6_assembled assembled = {9, 9};
     const uint8_t *text = (const uint8_t *)other_program;
+    size_t count = 9;
     must(xv6_as(text, sizeof other_program - 1, file, sizeof file, report, sizeof report, &told) == 0, "a text is expanded");
     must(told.bytes == 4096 + 16 && told.report < sizeof report, "its file and its report");
     must(memcmp(report + told.report - 11, "4 12 ecall\n", 11) == 0, "the last line of its report");
+    must(xv6_locate(file, told.bytes, 0, report, sizeof report, &count) == 0 && count == 0, "a file without symbols has no names");
+    name_program();
+    must(xv6_locate(named_program, sizeof named_program, 4, report, sizeof report, &count) == 0 && count == 10, "a name of an address");
+    must(memcmp(report, "_start+0x4", 10) == 0, "function and offset");
+    must(xv6_locate(named_program, sizeof named_program, 0, report, 2, &count) == 0 && count == 6, "more than there is room for");
+    must(memcmp(report, "_start+0x4", 10) == 0, "nothing is written outside");
     must(xv6_as((const uint8_t *)wrong_program, sizeof wrong_program - 1, file, sizeof file, report, sizeof report, &told) == XV6_AS_FAULTS, "faults");
     must(told.bytes == 0 && memcmp(report, "2 5 ", 4) == 0, "the first in line 2, column 5");
     must(xv6_asm((const uint8_t *)wrong_program, sizeof wrong_program - 1, file, sizeof file, &assembled) == XV6_ASM_MNEMONIC, "a fault");
     must(assembled.line == 2 && assembled.bytes == 0, "in line 2");
+    must(xv6_locate(file, 0, 0, report, sizeof report, &count) == 0 && count == 0, "no file has no names");
     must(xv6_asm(PATH("\xff"), file, sizeof file, &assembled) == XV6_ASM_UTF8 && assembled.line == 0, "a text that is none");
     must(xv6_asm(PATH("x: x:"), file, sizeof file, &assembled) != 0, "what is no line");
 }
@@ -488,6 +672,8 @@ static struct xv6_descriptor named;
 static struct xv6_wait waits;
 static struct xv6_fault fault;
 static struct xv6_walk walked;
+static struct xv6_name name_out;
+static struct xv6_space space_out;
 static uint64_t digest;
 static uint8_t room[16];
 static size_t count;
@@ -496,7 +682,7 @@ static uint32_t steps;
 static uint32_t boots(const uint8_t *bytes, size_t many, uint32_t frames)
 {
     struct xv6_machine machine = {NULL};
-    uint32_t answer = xv6_boot(bytes, many, frames, &machine);
+    uint32_t answer = boot(bytes, many, frames, &machine);
     must((answer == 0) == (machine.inside != NULL), "a handle is there after 0 alone");
     xv6_close(&machine);
     return answer;
@@ -515,7 +701,7 @@ static void refuse_images(void)
     ROW(boots(image, length, 32769), XV6_BOOT_FRAMES);
     ROW(boots(image, length, 0xffffffffu), XV6_BOOT_FRAMES);
     ROW(boots(image, length, 64), 0u);
-    ROW(xv6_boot(image, length, FRAMES, NULL), XV6_NULL);
+    ROW(boot(image, length, FRAMES, NULL), XV6_NULL);
 }
 
 /* Each function of a machine, where there is none. */
@@ -531,6 +717,11 @@ static void refuse_handle(struct xv6_machine *machine)
     ROW(xv6_process(machine, 1, &process), XV6_NULL);
     ROW(xv6_page(machine, 1, 0, room, sizeof room), 0u);
     ROW(xv6_free_frames(machine), 0u);
+    ROW(xv6_ticks(machine), 0u);
+    ROW(xv6_coming_pid(machine), 0u);
+    ROW(xv6_program(machine, 1, &name_out), XV6_NULL);
+    ROW(xv6_could_end(machine, 1, 2), 0);
+    ROW(free_space(machine, image, length, &space_out), XV6_NULL);
     ROW(xv6_compute(machine, 1, NULL, 0), 0u);
     ROW(xv6_running(machine), 0u);
     ROW(xv6_is_anyone_asleep(machine), 0u);
@@ -544,7 +735,7 @@ static void refuse_handle(struct xv6_machine *machine)
     ROW(xv6_stat(machine, 1, &stat_out), XV6_NULL);
     ROW(xv6_read(machine, 1, 0, room, sizeof room, &count), XV6_NULL);
     ROW(xv6_save(machine, room, sizeof room, &count), XV6_NULL);
-    ROW(xv6_copy(machine, &copied), XV6_NULL);
+    ROW(copy(machine, &copied), XV6_NULL);
     ROW(xv6_is_closed(&copied), 1);
     ROW(xv6_is_closed(machine), 1);
     xv6_close(machine);
@@ -566,14 +757,16 @@ static void refuse_nulls(void)
     must(xv6_put(NULL, 1, PATH("/"), PATH("x")) == XV6_NULL && xv6_put(made, 1, PATH("/"), NULL, 1) == XV6_NULL, "put");
     must(xv6_asm(NULL, 1, file, 1, &assembled) == XV6_NULL && xv6_asm(PATH("x"), NULL, 1, &assembled) == XV6_NULL, "asm");
     must(xv6_asm(PATH("x"), file, 1, NULL) == XV6_NULL && xv6_as(PATH("x"), file, 1, NULL, 1, &told) == XV6_NULL, "asm and as");
+    must(xv6_locate(NULL, 1, 0, room, 1, &many) == XV6_NULL && xv6_locate(made, 1, 0, NULL, 1, &many) == XV6_NULL, "locate");
+    must(xv6_locate(made, 1, 0, room, 1, NULL) == XV6_NULL, "locate");
     must(xv6_as(NULL, 1, file, 1, report, 1, &told) == XV6_NULL && xv6_as(PATH("x"), file, 1, report, 1, NULL) == XV6_NULL, "as");
 }
 
 /* A place that is null, for a machine that is up. */
 static void refuse_places(void)
 {
-    ROW(xv6_copy(&up, NULL), XV6_NULL);
-    ROW(xv6_copy(&up, &up), XV6_NULL);
+    ROW(copy(&up, NULL), XV6_NULL);
+    ROW(copy(&up, &up), XV6_NULL);
     ROW(xv6_run(&up, 1, NULL), XV6_NULL);
     ROW(xv6_process(&up, 1, NULL), XV6_NULL);
     ROW(xv6_stat(&up, 1, NULL), XV6_NULL);
@@ -584,6 +777,9 @@ static void refuse_places(void)
     ROW(xv6_wait(&up, 1, NULL), XV6_NULL);
     ROW(xv6_fault(&up, 1, NULL), XV6_NULL);
     ROW(xv6_walk(&up, 1, 0, NULL), XV6_NULL);
+    ROW(xv6_program(&up, 1, NULL), XV6_NULL);
+    ROW(free_space(&up, NULL, length, &space_out), XV6_NULL);
+    ROW(free_space(&up, image, length, NULL), XV6_NULL);
     ROW(xv6_digest(&up, NULL), XV6_NULL);
     ROW(xv6_console(&up, NULL, 1), 0u);
     ROW(xv6_console(&up, NULL, 0), 0u);
@@ -607,6 +803,9 @@ static void find_nothing(void)
     ROW(xv6_descriptor(&up, 1, SIZE_MAX, &named), (uint32_t)XV6_NONE);
     ROW(xv6_pipe(&up, 0, room, sizeof room, &count), (uint32_t)XV6_NONE);
     ROW(xv6_wait(&up, 77, &waits), (uint32_t)XV6_NONE);
+    ROW(xv6_could_end(&up, 77, 1), 0);
+    ROW(xv6_could_end(&up, 1, 77), 0);
+    ROW(xv6_program(&up, 77, &name_out), (uint32_t)XV6_NONE);
     ROW(xv6_fault(&up, 77, &fault), (uint32_t)XV6_NONE);
     ROW(xv6_page(&up, 77, 0, room, sizeof room), 0u);
     ROW(xv6_page(&up, 1, UINT64_MAX, room, sizeof room), 0u);
@@ -635,15 +834,36 @@ static void refuse(void)
     refuse_images();
     refuse_nulls();
     refuse_handle(NULL);
-    must(xv6_boot(image, length, FRAMES, &closed) == 0, "the image boots again");
+    must(boot(image, length, FRAMES, &closed) == 0, "the image boots again");
     xv6_close(&closed);
     refuse_handle(&closed);
-    must(xv6_boot(image, length, FRAMES, &up) == 0, "the image boots a third time");
+    must(boot(image, length, FRAMES, &up) == 0, "the image boots a third time");
     refuse_places();
     find_nothing();
     press_keys();
     save_a_part();
     refuse_handle(&up);
+}
+
+static void *try_all(void *script)
+{
+    play(script);
+    play_many();
+    play_copies(0);
+    play_copies(1);
+    copy_stopped();
+    watch();
+    wait_at_pipe();
+    run_to();
+    run_to_address();
+    run_to_killed();
+    make_image();
+    use_image();
+    run_to_fault();
+    refuse_bytes();
+    expand_texts();
+    refuse();
+    return NULL;
 }
 
 int main(int argc, char **argv)
@@ -653,20 +873,8 @@ int main(int argc, char **argv)
         fprintf(stderr, "test.c: an image that can be read, and a script that can be written\n");
         return 2;
     }
-    play(script);
+    in_thread(SMALL_STACK, try_all, script);
     must(fclose(script) == 0, "the script is written");
-    play_many();
-    play_copies(0);
-    play_copies(1);
-    copy_stopped();
-    watch();
-    run_to();
-    make_image();
-    use_image();
-    run_to_fault();
-    refuse_bytes();
-    expand_texts();
-    refuse();
     free(image);
     return wrong;
 }

@@ -8,11 +8,11 @@
             that was closed is not known as such, and to use it is undefined. xv6_copy makes a machine of its own.
    Errors   0, or a number of those below. After XV6_INIT_ENDED one can still look and save; after XV6_CONSOLE_LOST each event,
             xv6_stat, xv6_read and xv6_save answer XV6_HALTED. The numbers that xv6_is_idle, xv6_console, xv6_next_pid,
-            xv6_page, xv6_free_frames, xv6_compute, xv6_running, xv6_is_anyone_asleep and xv6_directory return are no errors: where
-            something is null the first returns 1, and the others 0.
+            xv6_page, xv6_free_frames, xv6_ticks, xv6_coming_pid, xv6_compute, xv6_running, xv6_is_anyone_asleep and
+            xv6_directory return are no errors: where something is null the first returns 1, and the others 0.
    Threads  A machine is at one call at a time. Different machines may be at calls in different threads. No call is made from a
-            signal handler, nor from the forked child of a process with threads. A thread that calls has a stack of 1 MB or more:
-            machines are built there, and one that finds too little ends the process.
+            signal handler, nor from the forked child of a process with threads. A thread that boots or copies has a stack of 1 MB
+            or more: machines are built there, and one that finds too little ends the process. For all other calls 256 kB suffice.
    Replays  The events of a machine are its steps, ticks and keys, and xv6_run tells how many steps it took: the same events on
             the same image with the same number of frames do the same, as with `xv6 run`. */
 #ifndef XV6_H
@@ -27,7 +27,7 @@ extern "C" {
 
 /* The number of the interface, not of the release: the major number times 1000, and the minor one. A new function adds 1; one that
    changes, or a struct that does, adds 1000. */
-#define XV6_VERSION 1003
+#define XV6_VERSION 1004
 
 /* The most bytes that xv6_asm and xv6_as make of a text. */
 #define XV6_PROGRAM_BYTES 274432u
@@ -101,6 +101,17 @@ struct xv6_entry {
 struct xv6_summary {
     uint64_t inodes;
     uint64_t blocks;        /* of 1024 bytes, for data */
+};
+
+/* What is free on a disk. */
+struct xv6_space {
+    uint64_t inodes;
+    uint64_t blocks;        /* of 1024 bytes, for data */
+};
+
+/* The name of a program. */
+struct xv6_name {
+    char text[15];          /* it ends with a zero */
 };
 
 /* What became of an assembly text. */
@@ -200,6 +211,9 @@ enum { XV6_NO_PROCESS = 1, XV6_NONE = 1 };
 /* Something that must not be null is. The number is no other's. */
 #define XV6_NULL 6u
 
+/* The calls that processes wait in. */
+enum { XV6_WAIT = 3, XV6_READS = 5, XV6_SLEEP = 13, XV6_WRITES = 16 };
+
 enum { XV6_RUNNING = 1, XV6_READY = 2, XV6_WAITING = 3, XV6_ENDED = 4 };
 enum { XV6_NO_NODE = 0, XV6_DIRECTORY = 1, XV6_FILE = 2, XV6_DEVICE = 3 };
 enum { XV6_ON_FILE = 1, XV6_ON_CONSOLE = 2, XV6_ON_DEVICE = 3, XV6_ON_READ_END = 4, XV6_ON_WRITE_END = 5 };
@@ -243,6 +257,8 @@ uint32_t xv6_raw_fault(struct xv6_machine *machine, uint32_t pid, struct xv6_fau
 uint32_t xv6_raw_page(struct xv6_machine *machine, uint32_t pid, uint64_t page, uint8_t *out, size_t room);
 uint32_t xv6_raw_walk(struct xv6_machine *machine, uint32_t pid, uint64_t address, struct xv6_walk *out);
 uint32_t xv6_raw_free_frames(struct xv6_machine *machine);
+uint32_t xv6_raw_ticks(struct xv6_machine *machine);
+uint32_t xv6_raw_coming_pid(struct xv6_machine *machine);
 uint32_t xv6_raw_digest(struct xv6_machine *machine, uint64_t *out);
 uint32_t xv6_raw_stat(struct xv6_machine *machine, size_t inode, struct xv6_stat *out);
 uint32_t xv6_raw_read(struct xv6_machine *machine, size_t inode, size_t at, uint8_t *out, size_t room, size_t *count);
@@ -254,6 +270,7 @@ uint32_t xv6_raw_list(const uint8_t *image, size_t length, const uint8_t *path, 
 uint32_t xv6_raw_get(const uint8_t *image, size_t length, const uint8_t *path, size_t path_length, uint8_t *out, size_t room, size_t *count);
 uint32_t xv6_raw_put(uint8_t *image, size_t length, const uint8_t *path, size_t path_length, const uint8_t *bytes, size_t count);
 uint32_t xv6_raw_migrate(uint8_t *image, size_t length);
+uint32_t xv6_raw_locate(const uint8_t *file, size_t length, uint64_t address, uint8_t *out, size_t room, size_t *count);
 uint32_t xv6_raw_asm(const uint8_t *text, size_t length, uint8_t *out, size_t room, struct xv6_assembled *told);
 uint32_t xv6_raw_as(const uint8_t *text, size_t length, uint8_t *out, size_t room, uint8_t *report, size_t report_room, struct xv6_expanded *told);
 
@@ -312,12 +329,12 @@ static inline uint32_t xv6_compute(struct xv6_machine *machine, uint32_t most, c
     return xv6_is_closed(machine) || (stops == NULL && count != 0) ? 0 : xv6_raw_compute(machine, most, stops, count);
 }
 
-/* What xv6_run_to runs to. A sum of them is any of them. */
-enum { XV6_TO_CALL = 1, XV6_TO_FAULT = 2, XV6_TO_EXIT = 4 };
+/* What xv6_run_to runs to. A sum of them is any of them. XV6_TO_ADDRESS is what xv6_run_to_address runs to. */
+enum { XV6_TO_CALL = 1, XV6_TO_FAULT = 2, XV6_TO_EXIT = 4, XV6_TO_ADDRESS = 8 };
 
-/* What xv6_run_to came to. */
+/* What xv6_run_to and xv6_run_to_address came to. */
 struct xv6_reached {
-    uint32_t what;          /* XV6_TO_CALL, XV6_TO_FAULT or XV6_TO_EXIT; 0: none, since all processes wait or the steps were taken */
+    uint32_t what;          /* XV6_TO_CALL .. XV6_TO_ADDRESS; 0: none, since all processes wait or the steps were taken */
     uint32_t pid;           /* of which process */
     uint32_t done;          /* how many steps were taken: xv6_steps of as many does the same */
     uint32_t call;          /* the number of the call, a7 */
@@ -336,12 +353,25 @@ static inline int xv6_has_ended(struct xv6_machine *machine, uint32_t pid, int32
     return 1;
 }
 
+/* The pids of processes that were killed and end at their next turn, at `out`; how many. */
+static inline size_t xv6_killed(struct xv6_machine *machine, uint32_t out[64])
+{
+    struct xv6_process now;
+    uint32_t pid = 0;
+    size_t count = 0;
+    while ((pid = xv6_raw_next_pid(machine, pid)) != 0) {
+        if (count < 64 && xv6_raw_process(machine, pid, &now) == 0 && now.killed != 0 && now.state != XV6_ENDED) out[count++] = pid;
+    }
+    return count;
+}
+
 /* Runs to the next call, fault or exit of a process, or of any one where `pid` is 0; at most so many steps. The machine is before the
    instruction of a call and after that of a fault or an exit; a call that is next already is passed. 0, or why the machine stops. */
 static inline uint32_t xv6_run_to(struct xv6_machine *machine, uint32_t what, uint32_t pid, uint32_t most, struct xv6_reached *out)
 {
     struct xv6_process now;
-    uint32_t answer, step, running, is_fault;
+    uint32_t answer, step, running, is_fault, ends[64];
+    size_t count, at;
     if (xv6_is_closed(machine) || out == NULL) return XV6_NULL;
     out->what = out->pid = out->done = out->call = 0;
     out->status = -1;
@@ -357,16 +387,41 @@ static inline uint32_t xv6_run_to(struct xv6_machine *machine, uint32_t what, ui
             out->call = (uint32_t)now.registers[17];
             return 0;
         }
+        ends[0] = running;
+        count = running != 0 ? 1 : (what & XV6_TO_EXIT) != 0 ? xv6_killed(machine, ends) : 0;
         answer = xv6_raw_run(machine, 1, &step);
         out->done += step;
-        if (running != 0 && (pid == 0 || pid == running) && xv6_has_ended(machine, running, &out->status)
-            && (what & (is_fault ? (uint32_t)XV6_TO_FAULT | XV6_TO_EXIT : (uint32_t)XV6_TO_EXIT)) != 0) {
+        for (at = 0; at < count; at++) {
+            if ((pid != 0 && pid != ends[at]) || !xv6_has_ended(machine, ends[at], &out->status)) continue;
+            if ((what & (is_fault ? (uint32_t)XV6_TO_FAULT | XV6_TO_EXIT : (uint32_t)XV6_TO_EXIT)) == 0) continue;
             out->what = is_fault && (what & XV6_TO_FAULT) != 0 ? XV6_TO_FAULT : XV6_TO_EXIT;
-            out->pid = running;
+            out->pid = ends[at];
             return answer;
         }
         if (answer != 0 || step == 0) return answer;
     }
+}
+
+/* Runs until the next instruction of a process, or of any one where `pid` is 0, is at an address; at most so many steps. An instruction that
+   is there already is passed. 0, or why the machine stops. */
+static inline uint32_t xv6_run_to_address(struct xv6_machine *machine, uint64_t address, uint32_t pid, uint32_t most, struct xv6_reached *out)
+{
+    struct xv6_process now;
+    uint32_t answer = 0, step;
+    if (xv6_is_closed(machine) || out == NULL) return XV6_NULL;
+    out->what = out->pid = out->done = out->call = 0;
+    out->status = -1;
+    while (out->done < most && answer == 0) {
+        step = xv6_raw_compute(machine, most - out->done, &address, 1);
+        if (step == 0) answer = xv6_raw_run(machine, 1, &step);
+        if (step == 0) break;
+        out->done += step;
+        if (xv6_raw_process(machine, xv6_raw_running(machine), &now) != 0 || now.pc != address || (pid != 0 && pid != now.pid)) continue;
+        out->what = XV6_TO_ADDRESS;
+        out->pid = now.pid;
+        break;
+    }
+    return answer;
 }
 
 /* Runs until the console prints, at most so many steps, and takes its bytes as xv6_console does. 0: none came before all processes wait,
@@ -454,6 +509,25 @@ static inline uint32_t xv6_wait(struct xv6_machine *machine, uint32_t pid, struc
     return xv6_is_closed(machine) || out == NULL ? XV6_NULL : xv6_raw_wait(machine, pid, out);
 }
 
+/* Whether a process could end what another one waits for: a child its parent's `wait` by its end, and who holds an end of a pipe, by a read,
+   a write or a close, the `read` or the `write` at its other end. Typed lines and ticks come from outside, and any process may kill. */
+static inline int xv6_could_end(struct xv6_machine *machine, uint32_t pid, uint32_t other)
+{
+    struct xv6_process process;
+    struct xv6_descriptor awaited, held;
+    struct xv6_wait wait;
+    size_t at;
+    if (xv6_is_closed(machine) || xv6_raw_process(machine, pid, &process) != 0 || xv6_raw_wait(machine, pid, &wait) != 0) return 0;
+    if (process.call == XV6_WAIT) return xv6_raw_process(machine, other, &process) == 0 && process.parent == pid;
+    if (process.call != XV6_READS && process.call != XV6_WRITES) return 0;
+    if (xv6_raw_descriptor(machine, pid, (uint32_t)wait.arguments[0], &awaited) != 0 || awaited.kind < XV6_ON_READ_END) return 0;
+    for (at = 0; at < 16; at++) {
+        if (xv6_raw_descriptor(machine, other, at, &held) != 0 || held.number != awaited.number) continue;
+        if (held.kind >= XV6_ON_READ_END && held.kind != awaited.kind) return 1;
+    }
+    return 0;
+}
+
 /* The number of the working directory of a process. 0: it has ended, or there is no such process. */
 static inline uint32_t xv6_directory(struct xv6_machine *machine, uint32_t pid)
 {
@@ -488,6 +562,18 @@ static inline uint32_t xv6_free_frames(struct xv6_machine *machine)
     return xv6_is_closed(machine) ? 0 : xv6_raw_free_frames(machine);
 }
 
+/* How many timer ticks the machine has had since it started, modulo 2^32: what `uptime` returns. */
+static inline uint32_t xv6_ticks(struct xv6_machine *machine)
+{
+    return xv6_is_closed(machine) ? 0 : xv6_raw_ticks(machine);
+}
+
+/* The pid that the next fork gives, if it gives one. */
+static inline uint32_t xv6_coming_pid(struct xv6_machine *machine)
+{
+    return xv6_is_closed(machine) ? 0 : xv6_raw_coming_pid(machine);
+}
+
 /* A number that is made of the whole state, at `out`: machines in the same state have the same one, and others another except by chance. */
 static inline uint32_t xv6_digest(struct xv6_machine *machine, uint64_t *out)
 {
@@ -506,6 +592,70 @@ static inline uint32_t xv6_stat(struct xv6_machine *machine, size_t inode, struc
 static inline uint32_t xv6_read(struct xv6_machine *machine, size_t inode, size_t at, uint8_t *out, size_t room, size_t *count)
 {
     return xv6_is_closed(machine) || count == NULL || (out == NULL && room != 0) ? XV6_NULL : xv6_raw_read(machine, inode, at, out, room, count);
+}
+
+/* A number whose least byte comes first. */
+static inline uint64_t xv6_little(const uint8_t *bytes, size_t count)
+{
+    uint64_t number = 0;
+    while (count-- > 0) number = number << 8 | bytes[count];
+    return number;
+}
+
+/* Reads the header of the first part that a program's file loads. 0 where the file is no program. */
+static inline int xv6_first_part(struct xv6_machine *machine, size_t inode, uint8_t part[56])
+{
+    uint8_t head[64];
+    uint64_t at, headers;
+    size_t count;
+    if (xv6_raw_read(machine, inode, 0, head, sizeof head, &count) != 0 || count < sizeof head) return 0;
+    if (xv6_little(head, 4) != 0x464c457f) return 0;
+    headers = xv6_little(head + 56, 2);
+    for (at = xv6_little(head + 32, 8); headers-- > 0; at += 56) {
+        if (xv6_raw_read(machine, inode, (size_t)at, part, 56, &count) != 0 || count < 56) return 0;
+        if (xv6_little(part, 4) == 1) return 1;
+    }
+    return 0;
+}
+
+/* How many bytes of the first page of a file's program a process has, up to the first that differs. 0 where the file is no program. */
+static inline size_t xv6_same_bytes(struct xv6_machine *machine, uint32_t pid, size_t inode)
+{
+    uint8_t part[56], file[4096], page[4096];
+    size_t count, same = 0;
+    if (!xv6_first_part(machine, inode, part)) return 0;
+    if (xv6_raw_read(machine, inode, (size_t)xv6_little(part + 8, 8), file, sizeof file, &count) != 0) return 0;
+    if (xv6_raw_page(machine, pid, xv6_little(part + 16, 8) / sizeof page, page, sizeof page) == 0) return 0;
+    while (same < count && same < xv6_little(part + 32, 8) && file[same] == page[same]) same++;
+    return same;
+}
+
+/* Looks at the programs of a directory and of those below it, for the one of which a process has the most bytes. */
+static inline void xv6_look_for_name(struct xv6_machine *machine, uint32_t pid, size_t directory, int depth, size_t *most, struct xv6_name *out)
+{
+    struct xv6_stat stat;
+    uint8_t entry[16];
+    size_t at, count, inode, same, i;
+    for (at = 0; xv6_raw_read(machine, directory, at, entry, sizeof entry, &count) == 0 && count == sizeof entry; at += sizeof entry) {
+        inode = (size_t)entry[0] + 256u * entry[1];
+        if (inode == 0 || entry[2] == '.' || xv6_raw_stat(machine, inode, &stat) != 0) continue;
+        if (stat.kind == XV6_DIRECTORY && depth != 0) xv6_look_for_name(machine, pid, inode, depth - 1, most, out);
+        same = stat.kind == XV6_FILE ? xv6_same_bytes(machine, pid, inode) : 0;
+        if (same <= *most) continue;
+        *most = same;
+        for (i = 0; i < 14; i++) out->text[i] = (char)entry[2 + i];
+    }
+}
+
+/* The name of the program that a process has, at `out`. A machine keeps no names: it is that of the file whose first page the process has in
+   the most of its bytes, and in 16 at least, in the root or up to three directories below. XV6_NONE where there is none. */
+static inline uint32_t xv6_program(struct xv6_machine *machine, uint32_t pid, struct xv6_name *out)
+{
+    size_t most = 15, i;
+    if (xv6_is_closed(machine) || out == NULL) return XV6_NULL;
+    for (i = 0; i < sizeof out->text; i++) out->text[i] = 0;
+    xv6_look_for_name(machine, pid, 1, 3, &most, out);
+    return most == 15 ? XV6_NONE : 0;
 }
 
 /* Ends a machine, as xv6_close does: its processes go, and files that only they held. The bytes of its disk come to `out`, as many as
@@ -535,6 +685,25 @@ static inline uint32_t xv6_mkfs(const struct xv6_entry *entries, size_t count, c
 static inline uint32_t xv6_check(const uint8_t *image, size_t length, struct xv6_summary *out)
 {
     return out == NULL || (image == NULL && length != 0) ? XV6_NULL : xv6_raw_check(image, length, out);
+}
+
+/* What is free on a machine's disk, as a save would leave it now, at `out`; the machine goes on. `room` holds a saved image meanwhile: it has
+   as many bytes as the image that was booted. XV6_BOOT_MEMORY, what xv6_save and xv6_check answer, or XV6_IMAGE_LENGTH where `room` is
+   smaller, and then nothing is written at `out`. */
+static inline uint32_t xv6_free_space(struct xv6_machine *machine, uint8_t *room, size_t length, struct xv6_space *out)
+{
+    struct xv6_machine copy = {NULL};
+    struct xv6_summary used;
+    size_t bytes;
+    uint32_t answer;
+    if (xv6_is_closed(machine) || room == NULL || out == NULL) return XV6_NULL;
+    answer = xv6_raw_copy(machine, &copy);
+    if (answer == 0) answer = xv6_save(&copy, room, length, &bytes);
+    if (answer == 0) answer = xv6_raw_check(room, length < bytes ? length : bytes, &used);
+    if (answer != 0) return answer;
+    out->blocks = xv6_little(room + 1024 + 8, 4) - used.blocks;
+    out->inodes = xv6_little(room + 1024 + 12, 4) - 1 - used.inodes;
+    return 0;
 }
 
 /* Lists the directory of a path: a line for each entry, its name in 14 places, its type (1 directory, 2 file, 3 device), its number in 5
@@ -569,6 +738,14 @@ static inline uint32_t xv6_put(uint8_t *image, size_t length, const uint8_t *pat
 static inline uint32_t xv6_migrate(uint8_t *image, size_t length)
 {
     return image == NULL && length != 0 ? XV6_NULL : xv6_raw_migrate(image, length);
+}
+
+/* What a program's file says of an address, by its symbol table and its line numbers, as "sum+0x10 (oops.c:4)": as many bytes as there is
+   room for. `count`: how many it has, 0 where the file says nothing of the address. XV6_NO_MEMORY, and then nothing is written. */
+static inline uint32_t xv6_locate(const uint8_t *file, size_t length, uint64_t address, uint8_t *out, size_t room, size_t *count)
+{
+    if (count == NULL || (file == NULL && length != 0) || (out == NULL && room != 0)) return XV6_NULL;
+    return xv6_raw_locate(file, length, address, out, room, count);
 }
 
 /* Assembles a text, as `xv6 asm`. As many bytes of the program's file as there is room for come to `out`; it has at most XV6_PROGRAM_BYTES.

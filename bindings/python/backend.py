@@ -10,7 +10,8 @@ import zipfile
 
 HERE = os.path.dirname(os.path.abspath(__file__))
 TOP = os.path.dirname(os.path.dirname(HERE))
-FILES = [f"cathompi/{name}" for name in ("__init__.py", "events.py", "faults.py", "images.py", "library.py", "schedules.py", "shown.py", "py.typed", "libxv6.so")]
+MODULES = ("__init__", "events", "faults", "images", "library", "programs", "schedules", "shown")
+FILES = [*(f"cathompi/{name}.py" for name in MODULES), "cathompi/py.typed", "cathompi/libxv6.so"]
 NAME = "cathompi"
 SUMMARY = "xv6 as a pure machine that is proved correct"
 EPOCH = (1980, 1, 1, 0, 0, 0)

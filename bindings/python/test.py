@@ -1,7 +1,9 @@
 #!/usr/bin/env python3
-"""test.py FOLDER PROGRAM IMAGE: the package in a folder, 50 random sessions, whose console has the bytes of `xv6 run`, and 50 that are copied."""
+"""test.py FOLDER PROGRAM IMAGE: the package in a folder, 100 random sessions that are copied, and 100 whose console has the bytes of `xv6 run`, whose
+end is that of its `--json`, and whose calls, faults and exits are those of `xv6 trace --jsonl`."""
 import copy
 import doctest
+import json
 import os
 import random
 import subprocess
@@ -16,7 +18,7 @@ from cathompi import (
     assemble_exactly, schedules,
 )
 
-SEEDS = 50
+SEEDS = 100
 LINES = ["ls", "echo hi | cat", "mkdir d", "cat init | cat", "rm cat", "ln sh x", "forktest", "kill 2", "echo a b c", "ls | cat", "nope", "\x08\x15x", "\x04"]
 
 
@@ -116,6 +118,7 @@ def try_events(image):
             assert told(again) == told(machine)
         assert b"".join(it.data for it in happened if isinstance(it, Output)) == b"hi\n$ "
         assert [it.pid for it in happened if isinstance(it, Exit)] == [3, 4] and not any(isinstance(it, Fault) for it in happened)
+        assert [(it.at, it.pid, it.status) for it in killed_shell(image)] == [(420, 3, 0), (421, 2, -1)]
         names = [it.name for it in happened if isinstance(it, Call) and it.pid == 2]
         assert names.count("pipe") == 1 and names.count("fork") == 2 and names[-1] == "read"
         machine.type("ls\n")
@@ -124,6 +127,14 @@ def try_events(image):
         assert machine.until(call="any").pid in (2, 5) and machine.process(5) is not None
         assert machine.until(call="write", pid=5).arguments[0] == 1 and machine.until(exit=True).status == 0
         assert raises(NotReached, lambda: machine.until(fault=True)) and raises(ValueError, machine.until)
+
+
+def killed_shell(image):
+    """The exits of `kill 2`: the shell ends at its turn."""
+    with Machine(image) as machine:
+        machine.run()
+        machine.type("kill 2\n")
+        return [event for event in machine.events() if isinstance(event, Exit)]
 
 
 # Programs that end by a fault, and a part of its reason.
@@ -168,7 +179,12 @@ def try_looks(image):
     with Machine(image) as machine:
         machine.run()
         assert machine.running is None and machine.pipes == [] and machine.fault(2) is None and machine.waiting(99) is None
+        assert (machine.ticks, machine.coming_pid, machine.program(1), machine.program(2), machine.program(99)) == (0, 3, "init", "sh", None)
         waiting, held = machine.waiting(2), machine.descriptors(2)
+        assert (waiting.what, waiting.enders) == ("a line of the console", ())
+        assert (machine.waiting(1).what, machine.waiting(1).enders) == ("a child that ends", (2,))
+        [console] = machine.open_files
+        assert console.holders == tuple((pid, number) for pid in (1, 2) for number in range(3)) and console.kind == "console"
         assert (waiting.call, waiting.arguments[0], waiting.done, waiting.since) == ("read", 0, 0, 0)
         assert sorted(held) == [0, 1, 2] and held[0] == held[1] == machine.descriptors(1)[2] and held[0].descriptors == 6
         assert (held[0].kind, held[0].number, held[0].readable) == ("console", machine.stat("/console").number, True)
@@ -185,7 +201,26 @@ def try_looks(image):
         assert twin.digest != machine.digest
         twin.close()
         machine.run()
-        assert machine.pipes == []
+        assert machine.pipes == [] and machine.coming_pid == 5
+        machine.tick(3)
+        machine.type("cat | cat\n")
+        machine.run()
+        reader = machine.waiting(6)
+        assert (machine.ticks, reader.what, reader.enders, machine.program(6)) == (3, "bytes in pipe 0", (5,), "cat")
+        assert [(it.kind, it.holders) for it in machine.open_files[1:]] == [("read end", ((6, 0),)), ("write end", ((5, 1),))]
+        try_space(machine)
+
+
+def try_space(machine):
+    """Two programs wait at a pipe: as they end a directory is made, and takes a block and an inode."""
+    before = machine.free_space
+    assert before == machine.image().free and machine.waiting(6) is not None
+    machine.type("\x04mkdir d\n")
+    machine.run()
+    assert (before.inodes - machine.free_space.inodes, before.blocks - machine.free_space.blocks) == (1, 1)
+    table = machine.page_table(2)
+    assert ["u" in walk[-1].marks for walk in table.walks] == [True, False, True] and machine.page_table(99) is None
+    assert table.walks[0] == tuple(machine.walk(2, 0)) and machine.free_space.blocks > 1900
 
 
 def try_stops(image):
@@ -221,9 +256,17 @@ def try_pictures(image):
     """What a notebook shows."""
     with Machine(image) as machine:
         machine.run()
-        assert "waits in read" in machine._repr_html_() and "frames free" in machine._repr_html_()
+        shown = machine._repr_html_()
+        assert "<td>sh</td>" in shown and "waits in read for a line of the console" in shown and "tick 0; the next fork gives process 3" in shown
+        assert f"{machine.free_frames} frames, {machine.free_space.blocks} blocks and {machine.free_space.inodes} inodes free" in shown
         assert "<table>" in machine.process(2)._repr_html_() and "rwx" in machine.page(2, 0)._repr_html_()
-        assert machine.tree._repr_svg_().count("<text") == 2
+        assert machine.tree._repr_svg_().count("<text") == 2 and ">2 sh waits in read<" in machine.tree._repr_svg_()
+        assert machine.page_table(2)._repr_html_().count("<tr>") == 4 and "2: da-u-wrv 0x8" in machine.page_table(2)._repr_html_()
+        machine.type("echo hi | cat\n")
+        machine.until(call="write", pid=3)
+        machine.steps(1)
+        [pipe] = machine.pipes
+        assert "process 3 (descriptor 1)" in pipe._repr_html_() and "hi\\n&#x27;, 3 of 512 bytes" in pipe._repr_html_()
     assert "closed" in machine._repr_html_()
 
 
@@ -385,17 +428,89 @@ def try_copied_seeds(image):
                 assert told(machine) == told(twin) and machine.console() == twin.console() and machine.save() == twin.save(), f"seed {seed}"
 
 
+def reported(machine):
+    """What a report of the program says of a machine: its processes, and how many frames are free."""
+    return [reported_process(machine, process) for process in machine.processes()], machine.free_frames
+
+
+def reported_process(machine, process):
+    held = [
+        (number, it.kind.replace(" ", "_"), it.number, it.readable, it.writable, it.offset if it.kind == "file" else None)
+        for number, it in machine.descriptors(process.pid).items()
+    ]
+    waiting = machine.waiting(process.pid)
+    waits = waiting and (waiting.call, waiting.enders, waiting.what)
+    return process.pid, process.parent, process.state, process.status, process.killed, process.pc, process.size, held, waits
+
+
+WAITS = {
+    "child": "a child that ends", "console": "a line of the console", "bytes": "bytes in pipe {pipe}", "room": "room in pipe {pipe}",
+    "tick": "tick {tick}",
+}
+
+
+def read_report(report):
+    """The same of a report."""
+    processes = []
+    for it in report["processes"]:
+        held = [
+            (named["descriptor"], named["on"]["kind"], named["on"]["number"], named["readable"], named["writable"], named["on"]["offset"])
+            for named in it["descriptors"]
+        ]
+        waits = it["waits"] and (it["waits"]["call"], tuple(it["waits"]["pids"]), WAITS[it["waits"]["kind"]].format(**it["waits"]))
+        processes.append((*(it[key] for key in ("pid", "parent", "state", "status", "killed", "pc", "size")), held, waits))
+    return processes, report["free_frames"]
+
+
+def happened(image, script):
+    """The calls, faults and exits of a script, each with the number of its event, up to the end of process 1."""
+    found, gone = [], 0
+    with Machine(image) as machine:
+        try:
+            for line in script:
+                kind, what = line.split(" ")
+                if kind == "step":
+                    keep(((gone + it.at + 1, it) for it in machine.events(int(what))), found)
+                elif kind == "tick":
+                    machine.tick(int(what))
+                else:
+                    machine.type(bytes.fromhex(what))
+                gone += len(what) // 2 if kind == "keys" else int(what)
+        except Halted:
+            pass
+    calls = sorted((at, it.pid, it.name) for at, it in found if isinstance(it, Call))
+    faults = [(at, it.pid, it.pc, it.address) for at, it in found if isinstance(it, Fault)]
+    return calls, faults, [(at, it.pid, it.status) for at, it in found if isinstance(it, Exit)]
+
+
+def read_lines(lines):
+    """The same of the program's lines of events."""
+    calls = {(it.get("since", it["at"]), it["pid"], it["call"]) for it in lines if it["event"] in ("call", "wait")}
+    calls |= {(it["at"], it["pid"], "exit") for it in lines if it["event"] == "exit" and it["how"] == "exit"}
+    faults = [(it["at"], it["pid"], it["pc"], it["address"]) for it in lines if it["event"] == "fault"]
+    return sorted(calls), faults, [(it["at"], it["pid"], it["status"]) for it in lines if it["event"] == "exit"]
+
+
 def try_seeds(program, path, image):
-    """Random sessions; returns how many bytes their consoles have."""
-    all_bytes = 0
+    """Random sessions; returns how many bytes their consoles have, and how many calls, faults and exits there were."""
+    all_bytes = all_events = 0
     for seed in range(SEEDS):
-        with Machine(image) as machine, tempfile.NamedTemporaryFile("w", suffix=".script") as script:
-            script.write("\n".join(play(machine, random.Random(seed))) + "\n")
-            script.flush()
-            told = subprocess.run([program, "run", "--frames", "256", path, script.name], capture_output=True).stdout
+        with Machine(image) as machine, tempfile.TemporaryDirectory() as folder:
+            script, report, lines = (os.path.join(folder, name) for name in ("script", "report", "lines"))
+            events = play(machine, random.Random(seed))
+            with open(script, "w") as file:
+                file.write("\n".join(events) + "\n")
+            told = subprocess.run([program, "run", "--frames", "256", "--json", report, path, script], capture_output=True).stdout
             assert machine.console() == told, f"seed {seed}"
+            with open(report) as file:
+                assert reported(machine) == read_report(json.load(file)), f"seed {seed}"
+            subprocess.run([program, "trace", "--frames", "256", "--jsonl", lines, path, script], capture_output=True)
+            with open(lines) as file:
+                seen = happened(image, events)
+                assert seen == read_lines([json.loads(line) for line in file]), f"seed {seed}"
             all_bytes += len(told)
-    return all_bytes
+            all_events += sum(map(len, seen))
+    return all_bytes, all_events
 
 
 def main():
@@ -417,7 +532,8 @@ def main():
     print(f"check-library: Python: a session, with {free} frames free; files; errors; copies; threads; events; looks; stops; faults; schedules; images")
     try_copied_seeds(image)
     print(f"check-library: Python: {SEEDS} random sessions, each copied on its way")
-    print(f"check-library: Python: {SEEDS} random sessions, {try_seeds(os.path.abspath(program), path, image)} bytes, the same as the program's")
+    count, happenings = try_seeds(os.path.abspath(program), path, image)
+    print(f"check-library: Python: {SEEDS} random sessions, {count} bytes, as many processes at their ends, {happenings} events: the program's")
 
 
 main()

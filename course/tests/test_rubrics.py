@@ -93,6 +93,44 @@ most_steps = { full = 10, none = 30 }
         test = self.read("a.toml", self.TEXT).tests[1]
         self.assertEqual([grade.points_of(test, steps) for steps in (10, 11, 20, 29, 30, 31)], [2, 1, 1, 0, 0, 0])
 
+    CHECKS = """\
+def of_calls(run):
+    return [call for call in run.trace.calls]
+
+def by_a_helper(run):
+    return sorted(name for name in of_calls(run))
+
+def by_files(run):
+    return run.file("/out")
+
+def by_lines(run):
+    return run.lines and of_lines(run)
+
+def of_lines(run):
+    return by_lines(run)
+"""
+
+    def test_how_closely_runs_are_looked_at(self):
+        wanted = {
+            'match = ["."]': (grade.Depth.CONSOLE, False),
+            'left = { "/out" = true }': (grade.Depth.CONSOLE, True),
+            "status = { say = 0 }": (grade.Depth.REPORT, False),
+            "unwaited = false": (grade.Depth.ENDS, False),
+            'no_calls = ["fork"]': (grade.Depth.CALLS, False),
+            'check = "checks:by_lines"': (grade.Depth.REPORT, False),
+            'check = "checks:by_files"': (grade.Depth.REPORT, True),
+            'check = "checks:by_a_helper"': (grade.Depth.CALLS, False),
+        }
+        rubric = f'title = "Lab"\npoints = {len(wanted)}\n' + "".join(
+            f'[[test]]\nname = "{number}"\npoints = 1\ntype = ["say"]\n{key}\n' for number, key in enumerate(wanted)
+        )
+        with tempfile.TemporaryDirectory() as folder:
+            (pathlib.Path(folder) / "checks.py").write_text(self.CHECKS)
+            path = pathlib.Path(folder) / "a.toml"
+            path.write_text(rubric)
+            tests = grade.read_rubric(str(path)).tests
+        self.assertEqual([(test.depth, test.wants_files) for test in tests], list(wanted.values()))
+
     def test_keys_in_texts_of_several_lines(self):
         text = 'a = """\nb = 1\n[[c]]\n"""\n[d]\ne = [ # [\n 1,\n]\n"f.g" = {h = 2}\n'
         self.assertEqual(grade.toml_lines(text), {("a",): 1, ("d",): 5, ("d", "e"): 6, ("d", "f.g"): 9})

@@ -132,7 +132,7 @@ TEST(chdir_refuses, "chdir is refused for what is no directory")
 TEST(chdir_leaves_removed, "in a directory without a name nothing is found or made; it goes as it is left")
 
 /* exec */
-TEST(exec_replaces, "a program takes the place of the process")
+TEST(exec_replaces, "a program replaces that of the process")
 TEST(exec_refuses_path, "exec is refused where no program is")
 TEST(exec_refuses_words, "and where the words can't be read")
 TEST(exec_takes_31_words, "31 words at most; a0 is their number")

@@ -23,14 +23,15 @@ from .library import (
     WaitPut as _Wait, WalkPut as _Walk, library as _library,
 )
 from .events import CALLS as _CALLS, Call, Event, Exit, Fault, Output, events_of
-from .images import AssemblyError, AssemblyFault, Entry, Image, ImageError, Line, Program, Usage, assemble, assemble_exactly
+from .images import AssemblyError, AssemblyFault, Entry, Image, ImageError, Line, Program, Space, Usage, assemble, assemble_exactly, locate
+from .programs import Programs as _Programs
 from .schedules import Outcome, schedules
-from .shown import machine_html, page_html, process_html, tree_svg
+from .shown import machine_html, page_html, page_table_html, pipe_html, process_html, tree_svg
 
 __all__ = [
     "AssemblyError", "AssemblyFault", "BootError", "Call", "Closed", "Descriptor", "Entry", "Error", "Event", "Exit", "Fault", "Halted", "Image",
-    "ImageError", "Line", "Machine", "NextFault", "Node", "NotPrinted", "NotReached", "Outcome", "Output", "Page", "Pipe", "Process", "Program",
-    "TableEntry", "Tree", "Usage", "VERSION", "Waiting", "assemble", "assemble_exactly", "schedules",
+    "ImageError", "Line", "Machine", "NextFault", "Node", "NotPrinted", "NotReached", "OpenFile", "Outcome", "Output", "Page", "PageTable", "Pipe",
+    "Process", "Program", "Space", "TableEntry", "Tree", "Usage", "VERSION", "Waiting", "assemble", "assemble_exactly", "locate", "schedules",
 ]
 
 PAGE_SIZE = 4096
@@ -57,6 +58,7 @@ _CAUSES = {
 }
 _DESCRIPTORS = 16
 _PIPE_SIZE = 512
+_PIPE_ENDS = ("read end", "write end")
 _ROOT = 1
 _SLICE = 100_000
 
@@ -135,6 +137,23 @@ class Descriptor:
 
 
 @dataclass(frozen=True)
+class OpenFile:
+    """An open file, with all descriptors that name it."""
+
+    file: int
+    kind: str
+    """As that of a descriptor."""
+    number: int
+    """The number of its node, or of its pipe."""
+    offset: int
+    """In bytes; 0 except in a file."""
+    readable: bool
+    writable: bool
+    holders: Tuple[Tuple[int, int], ...]
+    """Pids, each with the descriptor."""
+
+
+@dataclass(frozen=True)
 class Pipe:
     """A pipe that a descriptor names."""
 
@@ -145,6 +164,9 @@ class Pipe:
     """Who holds the read end: pids, each with the descriptor."""
     writers: Tuple[Tuple[int, int], ...]
     """Who holds the write end."""
+
+    def _repr_html_(self) -> str:
+        return pipe_html(self, _PIPE_SIZE)
 
 
 @dataclass(frozen=True)
@@ -158,6 +180,11 @@ class Waiting:
     """How many bytes were read or written so far."""
     since: int
     """The count of ticks as it began."""
+    what: str
+    """What it waits for, in words, as "bytes in pipe 0"."""
+    enders: Tuple[int, ...]
+    """The pids of processes that could end that, by what they do next: children, or who holds the other end of a pipe. Typed lines and
+    ticks come from outside, and any process may kill."""
 
 
 @dataclass(frozen=True)
@@ -198,13 +225,27 @@ class TableEntry:
 
 
 @dataclass(frozen=True)
+class PageTable:
+    """What the page table of a process says of its pages; a notebook shows it as a table."""
+
+    pid: int
+    walks: Tuple[Tuple[TableEntry, ...], ...]
+    """For each page, from that of address 0 on, the entries that its walk reads; the last of them is the page's own, or is not valid."""
+
+    def _repr_html_(self) -> str:
+        return page_table_html(self)
+
+
+@dataclass(frozen=True)
 class Tree:
     """Processes as a tree, each below its parent; a notebook draws it."""
 
     processes: Tuple[Process, ...]
+    names: Tuple[Optional[str], ...]
+    """The names of their programs, where they are known."""
 
     def _repr_svg_(self) -> str:
-        return tree_svg(self.processes)
+        return tree_svg(self.processes, self.names)
 
 
 @dataclass(frozen=True)
@@ -507,8 +548,24 @@ class Machine:
             process = self.process(pid)
             if process is None or process.call is None or _library.xv6_raw_wait(self._open(), pid, at):
                 return None
-        first, second, third = at.arguments
-        return Waiting(process.call, (first, second, third), at.done, at.since)
+            first, second, third = at.arguments
+            what, enders = self._awaited(process, first, at.since)
+        return Waiting(process.call, (first, second, third), at.done, at.since, what, enders)
+
+    def _awaited(self, process: Process, first: int, since: int) -> Tuple[str, Tuple[int, ...]]:
+        """What a process waits for, in words, and who could end that."""
+        if process.call == "wait":
+            return "a child that ends", tuple(it.pid for it in self.processes() if it.parent == process.pid)
+        if process.call == "sleep":
+            time = first & 0xFFFFFFFF
+            return f"tick {since + (time if time < 1 << 31 else 0) & 0xFFFFFFFF}", ()
+        named = self.descriptors(process.pid).get(first & 0xFFFFFFFF)
+        pipe = next((it for it in self.pipes if named is not None and named.kind in _PIPE_ENDS and it.number == named.number), None)
+        if named is None or pipe is None:
+            return "a line of the console", ()
+        if named.kind == "read end":
+            return f"bytes in pipe {pipe.number}", _pids(pipe.writers)
+        return f"room in pipe {pipe.number}", _pids(pipe.readers)
 
     def descriptors(self, pid: int) -> Dict[int, Descriptor]:
         """The descriptors of a process that name something, with their open files."""
@@ -523,13 +580,27 @@ class Machine:
         return found
 
     @property
+    def open_files(self) -> List[OpenFile]:
+        """The open files that descriptors name, in the order of their numbers, with who holds them."""
+        held: Dict[int, List[Tuple[int, int]]] = {}
+        named: Dict[int, Descriptor] = {}
+        with self._lock:
+            for process in self.processes():
+                for number, it in self.descriptors(process.pid).items():
+                    held.setdefault(it.file, []).append((process.pid, number))
+                    named[it.file] = it
+        return [
+            OpenFile(file, it.kind, it.number, it.offset, it.readable, it.writable, tuple(held[file])) for file, it in sorted(named.items())
+        ]
+
+    @property
     def pipes(self) -> List[Pipe]:
         """The pipes that descriptors name, in the order of their numbers, with what is in them and who holds which end."""
         ends: Dict[int, Dict[str, List[Tuple[int, int]]]] = {}
         with self._lock:
             for process in self.processes():
                 for number, named in self.descriptors(process.pid).items():
-                    if named.kind in ("read end", "write end"):
+                    if named.kind in _PIPE_ENDS:
                         held = ends.setdefault(named.number, {"read end": [], "write end": []})
                         held[named.kind].append((process.pid, number))
             return [
@@ -561,15 +632,26 @@ class Machine:
             self._kept += data
             return data
 
+    def program(self, pid: int) -> Optional[str]:
+        """The name of the program that a process has; None where no file on the disk has its bytes, and where there is no such process.
+
+        A machine keeps no names: it is that of the file whose first page the process has in the most of its bytes.
+        """
+        return _Programs(self).name(pid)
+
     @property
     def tree(self) -> Tree:
         """The processes as a tree."""
-        return Tree(tuple(self.processes()))
+        processes, programs = self.processes(), _Programs(self)
+        return Tree(tuple(processes), tuple(programs.name(it.pid) for it in processes))
 
     def _repr_html_(self) -> str:
         if self.closed:
             return "<p>a machine that is closed</p>"
-        return machine_html(self.processes(), self.free_frames)
+        tree, space = self.tree, self.free_space
+        waits = [waiting.what if waiting is not None else None for waiting in (self.waiting(it.pid) for it in tree.processes)]
+        counts = f"{self.free_frames} frames, {space.blocks} blocks and {space.inodes} inodes free; tick {self.ticks}"
+        return machine_html(tree.processes, tree.names, waits, f"{counts}; the next fork gives process {self.coming_pid}")
 
     def processes(self) -> List[Process]:
         """All processes, in the order of their pids."""
@@ -597,17 +679,44 @@ class Machine:
                 return None
         return [TableEntry(2 - step, address >> 30 - 9 * step & 511, at.entries[step]) for step in range(at.count)]
 
+    def page_table(self, pid: int) -> Optional[PageTable]:
+        """The walks of all pages of a process; None where there is no such process."""
+        with self._lock:
+            process = self.process(pid)
+            if process is None:
+                return None
+            walks = (self.walk(pid, address) or [] for address in range(0, process.size, PAGE_SIZE))
+            return PageTable(pid, tuple(tuple(walk) for walk in walks))
+
+    def _asked(self, name: str) -> int:
+        """What an export that takes the machine alone returns."""
+        with self._lock:
+            return int(getattr(_library, "xv6_raw_" + name)(self._open()))
+
     @property
     def idle(self) -> bool:
         """Whether no process runs or is ready, so that a step changes nothing."""
-        with self._lock:
-            return bool(_library.xv6_raw_is_idle(self._open()))
+        return bool(self._asked("is_idle"))
 
     @property
     def free_frames(self) -> int:
         """How many frames are free."""
-        with self._lock:
-            return int(_library.xv6_raw_free_frames(self._open()))
+        return self._asked("free_frames")
+
+    @property
+    def ticks(self) -> int:
+        """How many timer ticks the machine has had since it started, modulo 2^32: what uptime returns."""
+        return self._asked("ticks")
+
+    @property
+    def coming_pid(self) -> int:
+        """The pid that the next fork gives, if it gives one."""
+        return self._asked("coming_pid")
+
+    @property
+    def free_space(self) -> Space:
+        """What is free on the disk, as a save would leave it now; the machine goes on, and a copy of it is saved."""
+        return self.image().free
 
     # ---- files
 
@@ -662,6 +771,11 @@ class Machine:
                 raise FileNotFoundError(path)
             number = there[name]
         return number
+
+
+def _pids(holders: Sequence[Tuple[int, int]]) -> Tuple[int, ...]:
+    """The pids of those who hold something, each once."""
+    return tuple(dict.fromkeys(pid for pid, _descriptor in holders))
 
 
 def _is_wanted(event: Event, call: Optional[str], fault: bool, exit: bool) -> bool:

@@ -2,7 +2,7 @@
 from __future__ import annotations
 
 from dataclasses import dataclass
-from typing import TYPE_CHECKING, Iterator, Optional, Tuple, Union
+from typing import TYPE_CHECKING, Iterator, List, Optional, Tuple, Union
 
 from .faults import fault_of
 
@@ -80,15 +80,27 @@ def _call_of(process: Process, at: int) -> Call:
     return Call(at, process.pid, name, process.registers[_A0:_A0 + _TAKES.get(name, 0)])
 
 
+def _exit(machine: Machine, pid: int, at: int) -> Optional[Exit]:
+    """The end of a process that may have come to it; None where it goes on."""
+    now = machine.process(pid)
+    if now is not None and now.state != "ended":
+        return None
+    return Exit(at, pid, now.status if now is not None and now.status is not None else -1)
+
+
 def _ended(machine: Machine, process: Process, fault: Optional[NextFault], at: int) -> Iterator[Event]:
     """What a process that no longer runs, and was not in a call that goes on, came to."""
-    now = machine.process(process.pid)
-    if now is not None and now.state != "ended":
+    end = _exit(machine, process.pid, at)
+    if end is None:
         return
-    status = now.status if now is not None and now.status is not None else -1
     if fault is not None and not process.killed:
         yield Fault(at, process.pid, process.pc, fault_of(machine, process), fault.cause, fault.address)
-    yield Exit(at, process.pid, status)
+    yield end
+
+
+def _killed(machine: Machine) -> List[int]:
+    """The pids of processes that were killed and end at their next turn."""
+    return [it.pid for it in machine.processes() if it.killed and it.state != "ended"]
 
 
 def events_of(machine: Machine, most: int) -> Iterator[Event]:
@@ -105,6 +117,7 @@ def events_of(machine: Machine, most: int) -> Iterator[Event]:
         pid = machine.running
         process = machine.process(pid) if pid else None
         fault = machine.fault(pid) if pid else None
+        killed = _killed(machine) if process is None else []
         if process is not None and fault is None:
             yield _call_of(process, at)
         try:
@@ -113,10 +126,12 @@ def events_of(machine: Machine, most: int) -> Iterator[Event]:
         except Exception:
             if process is not None:
                 yield from _ended(machine, process, fault, at)
+            yield from filter(None, (_exit(machine, it, at) for it in killed))
             raise
         data = machine._printed()
         if data:
             yield Output(at, data)
         if process is not None and machine.running != process.pid:
             yield from _ended(machine, process, fault, at)
+        yield from filter(None, (_exit(machine, it, at) for it in killed))
         at += 1

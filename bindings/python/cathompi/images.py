@@ -8,7 +8,9 @@ from typing import Dict, Iterator, List, Mapping, Optional, Tuple, Union
 
 from .library import AssembledPut, EntryPut, Error, ExpandedPut, SummaryPut, library as _library
 
-__all__ = ["AssemblyError", "AssemblyFault", "Entry", "Image", "ImageError", "Line", "Program", "Usage", "assemble", "assemble_exactly"]
+__all__ = [
+    "AssemblyError", "AssemblyFault", "Entry", "Image", "ImageError", "Line", "Program", "Space", "Usage", "assemble", "assemble_exactly", "locate",
+]
 
 Data = Union[bytes, bytearray, memoryview]
 Text = Union[str, bytes]
@@ -129,6 +131,15 @@ class Usage:
     """Of 1024 bytes, for data."""
 
 
+@dataclass(frozen=True)
+class Space:
+    """What is free on an image."""
+
+    inodes: int
+    blocks: int
+    """Of 1024 bytes, for data."""
+
+
 def assemble(text: Text) -> Program:
     """Assembles a text as other assemblers take it, as `xv6 as` does. It includes no other files.
 
@@ -174,6 +185,22 @@ def assemble_exactly(text: Text) -> bytes:
     return out.raw[:told.bytes]
 
 
+def locate(program: Union[bytes, Program], address: int) -> str:
+    """What a program's file says of an address, by its symbol table and its line numbers: `sum+0x10 (oops.c:4)`. Empty where it says nothing.
+
+    >>> locate(assemble("_start: ecall\\n"), 0)
+    ''
+    """
+    told, count, room = bytes(program.file if isinstance(program, Program) else program), ctypes.c_size_t(), _ROOM
+    while True:
+        out = ctypes.create_string_buffer(room)
+        if _library.xv6_raw_locate(told, len(told), address, out, room, count) == _NO_MEMORY:
+            raise MemoryError("the host has no memory for the names")
+        if count.value <= room:
+            return out.raw[:count.value].decode("latin-1")
+        room = count.value
+
+
 class Image:
     """A disk image: its bytes, which are checked, and the files on it.
 
@@ -185,8 +212,8 @@ class Image:
     >>> image["/d/other"] = b"you"
     >>> [entry.name for entry in image.list("/d")]
     ['.', '..', 'hello', 'other']
-    >>> image.check()
-    Usage(inodes=4, blocks=4)
+    >>> image.check(), image.free
+    (Usage(inodes=4, blocks=4), Space(inodes=11, blocks=55))
     >>> "/none" in image, "/d/hello" in image
     (False, True)
     """
@@ -281,6 +308,13 @@ class Image:
         told = SummaryPut()
         _raise_for(_library.xv6_raw_check(self._data, len(self._data), told))
         return Usage(told.inodes, told.blocks)
+
+    @property
+    def free(self) -> Space:
+        """What is free: of what the super block counts, all that is not used."""
+        used = self.check()
+        blocks, inodes = (int.from_bytes(self._data.raw[at:at + 4], "little") for at in (_BLOCK + 8, _BLOCK + 12))
+        return Space(inodes - 1 - used.inodes, blocks - used.blocks)
 
     def list(self, path: str = "/") -> List[Entry]:
         """The entries of a directory, in their order."""

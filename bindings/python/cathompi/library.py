@@ -9,7 +9,7 @@ __all__ = [
     "VERSION", "WaitPut", "WalkPut", "library",
 ]
 
-VERSION = 1003
+VERSION = 1004
 """The number of the interface, not of the release: the major number times 1000, and the minor one."""
 
 
@@ -108,6 +108,8 @@ def load() -> ctypes.CDLL:
         ("page", u32, [at, u32, u64, data, size]),
         ("walk", u32, [at, u32, u64, ctypes.POINTER(WalkPut)]),
         ("free_frames", u32, [at]),
+        ("ticks", u32, [at]),
+        ("coming_pid", u32, [at]),
         ("digest", u32, [at, ctypes.POINTER(u64)]),
         ("stat", u32, [at, size, ctypes.POINTER(StatPut)]),
         ("read", u32, [at, size, size, data, size, ctypes.POINTER(size)]),
@@ -118,6 +120,7 @@ def load() -> ctypes.CDLL:
         ("get", u32, [data, size, data, size, data, size, ctypes.POINTER(size)]),
         ("put", u32, [data, size, data, size, data, size]),
         ("migrate", u32, [data, size]),
+        ("locate", u32, [data, size, u64, data, size, ctypes.POINTER(size)]),
         ("asm", u32, [data, size, data, size, ctypes.POINTER(AssembledPut)]),
         ("as", u32, [data, size, data, size, data, size, ctypes.POINTER(ExpandedPut)]),
     ]:

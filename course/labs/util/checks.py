@@ -105,7 +105,11 @@ def bytes_go_both_ways(run):
 
 
 def primes_up_to(last):
-    return [number for number in range(2, last + 1) if all(number % divisor for divisor in range(2, number))]
+    primes = []
+    for number in range(2, last + 1):
+        if all(number % prime for prime in primes):
+            primes.append(number)
+    return primes
 
 
 def primes_to(run, last):
@@ -124,9 +128,9 @@ def primes_to_280(run):
 def a_process_each(run):
     """The process of a prime prints it, and reads all numbers that no smaller prime divides, of four bytes each."""
     last = int(run.values.drawn["last"])
-    left, pids = list(range(2, last + 1)), processes(run, "primes")
+    left, lines = list(range(2, last + 1)), {pid: printed(run, pid) for pid in processes(run, "primes")}
     for prime in primes_up_to(last):
-        own = [pid for pid in pids if printed(run, pid) == f"prime {prime}\n"]
+        own = [pid for pid, line in lines.items() if line == f"prime {prime}\n"]
         if len(own) != 1:
             return f"no process prints prime {prime} alone"
         count = sum(call.result for call in reads(run, own[0])) // 4

@@ -32,7 +32,7 @@ struct Row<'a> {
 }
 
 impl<'a> Row<'a> {
-    /// The row that begins behind an `@`.
+    /// The row that begins after an `@`.
     fn read(row: &'a str) -> Option<Row<'a>> {
         let (first, text) = row.split_once('\n')?;
         let (length, sum) = first.split_once(' ')?;

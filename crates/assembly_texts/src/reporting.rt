@@ -29,7 +29,7 @@ fn margin(alloc: Global, text: &[u8], length: usize) -> Result<String, AllocErro
 }
 
 /// What `asm` says of a line that a row is expanded to.
-pub fn words_of_kind(kind: AsmKind) -> &'static str {
+pub(crate) fn words_of_kind(kind: AsmKind) -> &'static str {
     match kind {
         AsmKind::Syntax => "asm can't read what this is expanded to",
         AsmKind::Mnemonic => "asm has no instruction that this is expanded to",

@@ -14,7 +14,7 @@ fn padding(address: u64, number: &Number) -> u64 {
 }
 
 /// How many bytes a statement takes at an address.
-pub fn size_of(address: u64, statement: &Statement) -> u64 {
+pub(crate) fn size_of(address: u64, statement: &Statement) -> u64 {
     match statement {
         Statement::Empty => 0,
         Statement::Whole(_) | Statement::Numbered(_, _) | Statement::Jump(_, _) => 4,

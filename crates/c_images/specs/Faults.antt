@@ -12,6 +12,7 @@ use Rattle.listings.specs.declared.opening_fault.OpeningFault.{OpeningFault}
 use Rattle.listings.specs.declared.opening_fault.OpeningFault.TheVariants as opening
 use Rattle.migrate.specs.declared.fault.MigrateFault.{MigrateFault}
 use Rattle.migrate.specs.declared.fault.MigrateFault.TheVariants as migrate
+use Rattle.std.specs.declared.alloc.AllocError.{AllocError}
 use Rattle.tree.specs.declared.TreeFault.{TreeFault}
 use Rattle.tree.specs.declared.TreeFault.TheVariants as tree
 use Rattle.unixmodel.specs.declared.assembly.AsmKind.{AsmKind}
@@ -46,6 +47,9 @@ tree_number tree.Blocks = 209
 tree_number tree.Inodes = 210
 tree_number tree.Full = 211
 tree_number tree.Device = 4
+
+abbrev pub memory_number : AllocError → ℕ
+memory_number fault = 4
 
 abbrev pub make_number : MakeFault → ℕ
 make_number make.Name = 301

@@ -22,7 +22,8 @@ use Rattle.unixmodel.specs.Assembly as the
 use Rattle.unixmodel.specs.Files.{Files}
 use Rattle.unixmodel.specs.Formats.{format}
 use Rattle.unixmodel.specs.Image.{Denotes, DenotesSmall, inodes_in, named_blocks, numbers_in_use, size_in}
-use Rattle.c_images.specs.Faults.{image_number, listing_number, making_number, migrate_number, opening_number}
+use Rattle.c_images.specs.Faults.{image_number, listing_number, making_number, memory_number, migrate_number}
+use Rattle.c_images.specs.Faults.{opening_number}
 use Rattle.c_images.specs.Texts.{TellsText, assembled_told, expanded_number, expanded_put, file_put, report_put}
 use Rattle.c_images.specs.Texts.{text_number}
 use Rattle.c_images.specs.declared.summaries.SummaryTold.{SummaryTold}
@@ -82,6 +83,9 @@ Counts f Told old new count counted number =
 
 abbrev pub ListTells : List ℕ → List ℕ → ℕ → ℕ → ℕ → Type 0
 ListTells old new count counted number = Counts listing_number (λ answer. Unit {0}) old new count counted number
+
+abbrev pub LocationTells : List ℕ → List ℕ → ℕ → ℕ → ℕ → Type 0
+LocationTells old new count counted number = Counts memory_number (λ answer. Unit {0}) old new count counted number
 
 abbrev pub GetTells : List ℕ → List ℕ → List ℕ → List ℕ → ℕ → ℕ → ℕ → Type 0
 GetTells image path old new count counted number =

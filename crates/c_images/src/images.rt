@@ -1,8 +1,9 @@
-//! Images and assembly texts in buffers. Each returns 0, or the number of what is wrong.
+//! Images, programs and assembly texts in buffers. Each returns 0, or the number of what is wrong.
 ghost use Rattle.c_images.specs.Images.{AsTells, AsmTells, CheckTells, GetTells, ListTells, MakeTells, MigrateTells};
-ghost use Rattle.c_images.specs.Images.{PutTells, blocks_for};
+ghost use Rattle.c_images.specs.Images.{LocationTells, PutTells, blocks_for};
 ghost use Rattle.std.specs.Prelude.{◌≡◌};
 
+use crate::locations::location_of;
 use crate::puts::{put_bytes, put_count};
 use crate::summaries::{SummaryTold, put_summary};
 use crate::texts::{
@@ -78,6 +79,16 @@ pub fn migrate(alloc: Global, image: &mut [u8]) -> u32
     ensures { MigrateTells image.old image.new result }
 {
     put_bytes(&imagebytes::migrate(alloc, image), image)
+}
+
+/// Copies what a program's file says of an address, as `sum+0x10 (oops.c:4)`: as many bytes as there is room for, and
+/// puts how many it has, none where the file says nothing of it. 0, or 4 where the host has no memory.
+pub fn locate(alloc: Global, file: &[u8], address: u64, out: &mut [u8], count: &mut usize) -> u32
+    ensures { LocationTells out.old out.new count.old count.new result }
+{
+    let location = location_of(alloc, file, address);
+    put_count(&location, count);
+    put_bytes(&location, out)
 }
 
 /// Assembles a text: copies as many bytes of the program's file as there is room for, and puts how many it has, or the

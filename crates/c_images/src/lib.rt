@@ -3,11 +3,12 @@
 
 mod faults;
 mod images;
+mod locations;
 mod puts;
 mod summaries;
 mod texts;
 
 pub use imagebytes::EntryTold;
-pub use images::{assemble, check, expand, get, list, migrate, mkfs, put};
+pub use images::{assemble, check, expand, get, list, locate, migrate, mkfs, put};
 pub use summaries::SummaryTold;
 pub use texts::{AssembledTold, ExpandedTold};

@@ -196,7 +196,7 @@ static CASES: [Case; 11] = [
         bytes: &[(0, 0), (1024, 2)],
     },
     Case {
-        name: "a failed write is told",
+        name: "a failed write is reported",
         blocks: 31,
         good: 0,
         acts: &[
@@ -210,7 +210,7 @@ static CASES: [Case; 11] = [
         bytes: &[(0, 0)],
     },
     Case {
-        name: "a failed flush is told",
+        name: "a failed flush is reported",
         blocks: 31,
         good: 1,
         acts: &[
@@ -224,7 +224,7 @@ static CASES: [Case; 11] = [
         bytes: &[],
     },
     Case {
-        name: "no failure is told where there is none",
+        name: "no failure is reported where there is none",
         blocks: 31,
         good: 2,
         acts: &[

@@ -3,6 +3,7 @@ use Rattle.std.proofs.Common.{ap, refl, sym, ◌∙◌, ◌≡◌, ℕ, Option, 
 use Rattle.std.proofs.Common.{suc, ◌+◌, ◌-◌, ◌*◌, List, [], ◌∷◌, drop, take, slice_get, slice_range}
 use Rattle.std.proofs.lemmas.Option.{none-some, same_Some}
 use Rattle.causes.specs.Causes.{fault_shown, memory_of, trap_of, trap_shown}
+use Rattle.causes.specs.DataAccesses.{access_read, access_shown}
 use Rattle.machine.specs.declared.seen.Seen.{Seen}
 use Rattle.machine.specs.Seen.{seen_of}
 use Rattle.unixmodel.specs.Cycle.{act_word, cycle, fetched}
@@ -58,6 +59,14 @@ shown-word (Some p) seen word is h =
     let same : seen ≡ seen_of p = same_Some seen (seen_of p) is in
     ap (λ (s : Seen). trap_of (act_word (instruction_of word) s.registers s.pc p.memory)) same
     ∙ traps-word p word (h ∙ ap (λ (s : Seen). word_at p.memory s.pc) same)
+
+-- ---- what is seen of a process says what its next instruction loads or stores
+
+pub access-seen : (o : Option Process) (seen : Seen) → Some seen ≡ option_map seen_of o
+    → access_read seen.registers seen.pc (memory_of o) ≡ option_and_then access_shown o
+access-seen None seen is = absurd (none-some seen (sym is))
+access-seen (Some p) seen is =
+    ap (λ (s : Seen). access_read s.registers s.pc p.memory) (same_Some seen (seen_of p) is)
 
 -- ---- a fault is that trap, at the pc
 

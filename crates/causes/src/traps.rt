@@ -88,8 +88,8 @@ fn get(seen: &Seen, r: Reg) -> u64
     seen.registers[r.bits() as usize]
 }
 
-// The sum of a register and an immediate.
-fn sum(seen: &Seen, rs1: Reg, imm: Imm12) -> u64
+/// The sum of a register and an immediate.
+pub(crate) fn sum(seen: &Seen, rs1: Reg, imm: Imm12) -> u64
     ensures { result ≡ plus (slice_index seen.now.registers rs1) (extend 12 imm) }
 {
     get(seen, rs1).wrapping_add(immediate(imm))

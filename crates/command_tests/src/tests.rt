@@ -1,4 +1,5 @@
 //! Stored runs: jobs done with files in memory, and what they have to write.
+mod crashing;
 mod images;
 mod listing;
 mod living;
@@ -40,6 +41,8 @@ const UNTOLD: Telling<'static> = Telling {
     memory: None,
     status: false,
     progress: false,
+    faults: false,
+    symbols: None,
 };
 
 // How a process ends at a fault.
@@ -152,6 +155,17 @@ fn flat(frames: u32, tlb: bool) -> Job<'static> {
         frames,
         tlb,
         telling: UNTOLD,
+        file: "program",
+        script: "script",
+    })
+}
+
+// The same, of which something is printed.
+fn flat_told(frames: u32, telling: Telling<'static>) -> Job<'static> {
+    Job::Flat(Flat {
+        frames,
+        tlb: false,
+        telling,
         file: "program",
         script: "script",
     })
@@ -566,13 +580,13 @@ fn expect_runs(rt: &(impl Abort + AllocGlobal), subject: &str, runs: &[Run]) {
 fn expect_starts(rt: &(impl Abort + AllocGlobal)) {
     expect_runs(rt, "says hi and ends", GREETINGS);
     expect_runs(rt, "boots what fits", BOOTS);
-    expect_runs(rt, "tells bad scripts", BAD_SCRIPTS);
+    expect_runs(rt, "reports bad scripts", BAD_SCRIPTS);
 }
 
 fn expect_calls(rt: &(impl Abort + AllocGlobal)) {
     expect_runs(rt, "ends at faults", ENDS);
-    expect_runs(rt, "answers small calls", SMALL_CALLS);
-    expect_runs(rt, "tells refused writes", REFUSED_WRITES);
+    expect_runs(rt, "does small calls", SMALL_CALLS);
+    expect_runs(rt, "reports refused writes", REFUSED_WRITES);
 }
 
 fn expect_sizes(rt: &(impl Abort + AllocGlobal)) {

@@ -109,25 +109,36 @@ explained app = with_rule app (flag_rule (codes "explain"))
 abbrev pub with_bare : App → Text → App
 with_bare app name = with_rule app (word_rule name)
 
--- what all runs from an image take
+-- [--faults]
+abbrev pub with_faults : App → App
+with_faults app = with_rule app (flag_rule (codes "faults"))
+
+-- what all runs from an image take, and traces
+abbrev pub image_options : App → App
+image_options app =
+    telling_options (with_rule (with_rule (boot_options app) (count_rule (codes "fail"))) (option_rule (codes "save")))
+
+-- [--symbols DIR] [--explain]
+abbrev pub named_options : App → App
+named_options app = explained (with_rule app (option_rule (codes "symbols")))
+
 abbrev pub run_options : App → App
-run_options app = explained
-    (telling_options (with_rule (with_rule (boot_options app) (count_rule (codes "fail")))
-    (option_rule (codes "save"))))
+run_options app = named_options (with_faults (image_options app))
 
 -- flat [..] FILE SCRIPT
 abbrev pub declared_flat : App
 declared_flat = with_bare
-    (with_bare (explained (telling_options (boot_options (new_app (codes "flat"))))) (codes "FILE")) (codes "SCRIPT")
+    (with_bare (explained (with_faults (telling_options (boot_options (new_app (codes "flat")))))) (codes "FILE"))
+    (codes "SCRIPT")
 
 -- run [..] [--fail N] [--save OUT] IMAGE SCRIPT
 abbrev pub declared_run : App
 declared_run = with_bare (with_bare (run_options (new_app (codes "run"))) (codes "IMAGE")) (codes "SCRIPT")
 
--- live [--frames N] [--quantum N] [--record SCRIPT] [--save OUT] [--terminal] IMAGE
+-- live [--frames N] [--quantum N] [--record SCRIPT] [--save OUT] [--terminal] [--symbols DIR] IMAGE
 abbrev pub declared_live : App
 declared_live =
-    with_bare (explained (with_rule (with_rule (with_rule (with_rule (with_rule (new_app (codes "live"))
+    with_bare (named_options (with_rule (with_rule (with_rule (with_rule (with_rule (new_app (codes "live"))
     (number_rule (codes "frames") (codes "256"))) (several_rule (codes "quantum"))) (option_rule (codes "record")))
     (option_rule (codes "save"))) (flag_rule (codes "terminal")))) (codes "IMAGE")
 
@@ -154,7 +165,7 @@ line_options app =
 abbrev pub declared_trace : App
 declared_trace =
     with_bare (with_bare (with_rule (with_rule (with_rule (with_rule (with_rule (with_rule
-    (line_options (part_options (run_options (new_app (codes "trace")))))
+    (line_options (part_options (named_options (image_options (new_app (codes "trace"))))))
     (option_rule (codes "text"))) (option_rule (codes "perfetto"))) (option_rule (codes "commits")))
     (flag_rule (codes "core-is-pid")))
     (option_rule (codes "jsonl"))) (flag_rule (codes "play"))) (codes "IMAGE")) (codes "SCRIPT")
@@ -289,6 +300,8 @@ pub record IsTelling (found : List Row) (telling : Telling) : Type 0 where
   pub memory : IsCount (codes "memory") found telling.memory
   pub status : IsFlag (codes "status") found telling.status
   pub progress : IsFlag (codes "progress") found telling.progress
+  pub faults : IsFlag (codes "faults") found telling.faults
+  pub symbols : IsOption (codes "symbols") found telling.symbols
 
 pub record IsFlat (found : List Row) (flat : Flat) : Type 0 where
   pub frames : IsWritten (codes "frames") found flat.frames
@@ -399,6 +412,7 @@ pub record IsLive (found : List Row) (live : Live) : Type 0 where
   pub script : IsOption (codes "record") found live.script
   pub save : IsOption (codes "save") found live.save
   pub terminal : IsFlag (codes "terminal") found live.terminal
+  pub symbols : IsOption (codes "symbols") found live.symbols
   pub image : first_of (codes "IMAGE") found ≡ Some live.image.now
 
 -- the job is the command found, with its words

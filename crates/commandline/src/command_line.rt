@@ -216,6 +216,8 @@ fn telling<'a>(found: &ArgMatches<'a>) -> Option<Telling<'a>>
     };
     let status = flag_found(found, "status");
     let progress = flag_found(found, "progress");
+    let faults = flag_found(found, "faults");
+    let symbols = option_found(found, "symbols");
     Some(Telling {
         report,
         json,
@@ -223,6 +225,8 @@ fn telling<'a>(found: &ArgMatches<'a>) -> Option<Telling<'a>>
         memory,
         status,
         progress,
+        faults,
+        symbols,
     })
 }
 
@@ -532,6 +536,7 @@ fn live<'a>(found: &ArgMatches<'a>) -> Option<Job<'a>>
     let script = option_found(found, "record");
     let save = option_found(found, "save");
     let terminal = flag_found(found, "terminal");
+    let symbols = option_found(found, "symbols");
     let Some(image) = word_found(found, "IMAGE") else {
         return None;
     };
@@ -541,6 +546,7 @@ fn live<'a>(found: &ArgMatches<'a>) -> Option<Job<'a>>
         script,
         save,
         terminal,
+        symbols,
         image,
     }))
 }

@@ -155,7 +155,7 @@ const SAVE: Word<'static> = Word {
 const REPORT: Word<'static> = Word {
     name: "report",
     given: Given::Flag,
-    help: "Tells at the end why the machine stopped, each fault, and what each process is",
+    help: "Prints at the end why the machine stopped, each fault, and what each process is",
 };
 
 const JSON: Word<'static> = Word {
@@ -167,13 +167,13 @@ const JSON: Word<'static> = Word {
 const REGISTERS: Word<'static> = Word {
     name: "registers",
     given: Given::Count("PID"),
-    help: "Tells at the end the registers of the process with this pid",
+    help: "Prints at the end the registers of the process with this pid",
 };
 
 const MEMORY: Word<'static> = Word {
     name: "memory",
     given: Given::Count("PID"),
-    help: "Tells at the end the pages of the process with this pid, with their marks",
+    help: "Prints at the end the pages of the process with this pid, with their marks",
 };
 
 const STATUS: Word<'static> = Word {
@@ -185,13 +185,25 @@ const STATUS: Word<'static> = Word {
 const PROGRESS: Word<'static> = Word {
     name: "progress",
     given: Given::Flag,
-    help: "Tells on a terminal how many steps are done; `live` and `play` do so by themselves",
+    help: "Shows on a terminal how many steps are done; `live` and `play` do so by themselves",
+};
+
+const FAULTS: Word<'static> = Word {
+    name: "faults",
+    given: Given::Flag,
+    help: "Prints on standard error each fault of a process as it comes",
+};
+
+const SYMBOLS: Word<'static> = Word {
+    name: "symbols",
+    given: Given::Option("DIR"),
+    help: "Takes names for addresses of /NAME from DIR/NAME.elf, where that is there, in place of the image's file",
 };
 
 const EXPLAIN: Word<'static> = Word {
     name: "explain",
     given: Given::Flag,
-    help: "Says more of what is wrong, in a line behind the usual one",
+    help: "Says more of what is wrong, in a line after the usual one",
 };
 
 const SCRIPT: Word<'static> = Word {
@@ -218,7 +230,7 @@ const PROGRAM_FILE: Word<'static> = Word {
     help: "The program's file",
 };
 
-const FLAT: [Word<'static>; 11] = [
+const FLAT: [Word<'static>; 12] = [
     FRAMES,
     TLB,
     REPORT,
@@ -227,6 +239,7 @@ const FLAT: [Word<'static>; 11] = [
     MEMORY,
     STATUS,
     PROGRESS,
+    FAULTS,
     EXPLAIN,
     Word {
         name: "FILE",
@@ -236,12 +249,12 @@ const FLAT: [Word<'static>; 11] = [
     SCRIPT,
 ];
 
-const RUN: [Word<'static>; 13] = [
-    FRAMES, TLB, FAIL, SAVE, REPORT, JSON, REGISTERS, MEMORY, STATUS, PROGRESS, EXPLAIN, BOOTED,
-    SCRIPT,
+const RUN: [Word<'static>; 15] = [
+    FRAMES, TLB, FAIL, SAVE, REPORT, JSON, REGISTERS, MEMORY, STATUS, PROGRESS, FAULTS, SYMBOLS,
+    EXPLAIN, BOOTED, SCRIPT,
 ];
 
-const TRACE: [Word<'static>; 27] = [
+const TRACE: [Word<'static>; 28] = [
     FRAMES,
     TLB,
     FAIL,
@@ -252,6 +265,7 @@ const TRACE: [Word<'static>; 27] = [
     MEMORY,
     STATUS,
     PROGRESS,
+    SYMBOLS,
     EXPLAIN,
     Word {
         name: "pid",
@@ -327,7 +341,7 @@ const TRACE: [Word<'static>; 27] = [
     SCRIPT,
 ];
 
-const PLAY: [Word<'static>; 14] = [
+const PLAY: [Word<'static>; 16] = [
     FRAMES,
     TLB,
     FAIL,
@@ -338,6 +352,8 @@ const PLAY: [Word<'static>; 14] = [
     MEMORY,
     STATUS,
     PROGRESS,
+    FAULTS,
+    SYMBOLS,
     EXPLAIN,
     Word {
         name: "script",
@@ -489,7 +505,7 @@ const DUMP: [Word<'static>; 3] = [
     PROGRAM_FILE,
 ];
 
-const LIVE: [Word<'static>; 7] = [
+const LIVE: [Word<'static>; 8] = [
     FRAMES,
     Word {
         name: "quantum",
@@ -505,8 +521,9 @@ const LIVE: [Word<'static>; 7] = [
     Word {
         name: "terminal",
         given: Given::Flag,
-        help: "Standard input is a terminal that answers within a tenth of a second (make live): ^A x ends the session, ^P shows the processes",
+        help: "Standard input is a terminal whose read ends after a tenth of a second (make live): ^A x ends the session, ^P shows the processes",
     },
+    SYMBOLS,
     EXPLAIN,
     BOOTED,
 ];

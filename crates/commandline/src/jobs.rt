@@ -50,6 +50,10 @@ pub struct Telling<'a> {
     pub status: bool,
     /// Whether a terminal shows how many steps are done.
     pub progress: bool,
+    /// Whether each fault is printed as it comes.
+    pub faults: bool,
+    /// The name of the directory that has programs' files with symbols, where there is one.
+    pub symbols: Option<&'a str>,
 }
 
 /// The words of the command `flat`.
@@ -263,6 +267,8 @@ pub struct Live<'a> {
     pub save: Option<&'a str>,
     /// Whether standard input is a terminal, on which a read of nothing means that no key came for a while.
     pub terminal: bool,
+    /// The name of the directory that has programs' files with symbols, where there is one.
+    pub symbols: Option<&'a str>,
     /// The name of the image's file.
     pub image: &'a str,
 }

@@ -77,6 +77,17 @@ fn screen_of<H: Host>(job: &Job<'_>, host: &H) -> Option<H::Screen> {
     if is_told { host.screen() } else { None }
 }
 
+// Whether faults are printed among the console's bytes as they come, so that those are written out at once.
+fn tells_faults<H: Host>(job: &Job<'_>, host: &H) -> bool {
+    match *job {
+        Job::Flat(words) => words.telling.faults,
+        Job::Run(words) => words.telling.faults,
+        Job::Play(words) => words.run.telling.faults,
+        Job::Live(_) => host.screen().is_some(),
+        _ => false,
+    }
+}
+
 // Does the job, whose console's bytes and what is found or listed go to an output that clears the meter's line.
 fn perform_on<H: Host, S: Screen, W: Write, E: Write>(
     alloc: Global,
@@ -126,6 +137,6 @@ pub fn perform<H: Host, W: Write, E: Write>(
         return tell(&Failure::Twice(name), stderr);
     }
     let meter = Meter::new(screen_of(job, host));
-    let mut stdout = Cleared::new(stdout, &meter);
+    let mut stdout = Cleared::new(stdout, &meter, tells_faults(job, host));
     perform_on(alloc, job, host, &meter, &mut stdout, stderr)
 }

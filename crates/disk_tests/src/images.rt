@@ -222,7 +222,7 @@ static IN_USE_OR_WRONG: [Case; 19] = [
         told: Ok((2, 2)),
     },
     Case {
-        name: "there are fewer blocks than the super block tells",
+        name: "there are fewer blocks than the super block says",
         large: true,
         small: true,
         lists: &[&[(1028, 33)]],
@@ -236,7 +236,7 @@ static IN_USE_OR_WRONG: [Case; 19] = [
         told: Err(ImageFault::Magic),
     },
     Case {
-        name: "the log stands in another place",
+        name: "the log begins at another block",
         large: true,
         small: true,
         lists: &[&[(1044, 3)]],
@@ -278,28 +278,28 @@ static IN_USE_OR_WRONG: [Case; 19] = [
         told: Err(ImageFault::Address),
     },
     Case {
-        name: "an address is behind the disk",
+        name: "an address is past the disk",
         large: true,
         small: true,
         lists: &[&[(ROOT + 12, 32)]],
         told: Err(ImageFault::Address),
     },
     Case {
-        name: "an address is behind the file's end",
+        name: "an address is past the file's end",
         large: true,
         small: true,
         lists: &[&[(ROOT + 16, 6)]],
         told: Err(ImageFault::Address),
     },
     Case {
-        name: "the last but one address is behind the file's end",
+        name: "the last but one address is past the file's end",
         large: true,
         small: true,
         lists: &[&[(ROOT + 56, 6)]],
         told: Err(ImageFault::Address),
     },
     Case {
-        name: "the last address is behind the file's end",
+        name: "the last address is past the file's end",
         large: true,
         small: true,
         lists: &[&[(ROOT + 60, 6)]],
@@ -365,7 +365,7 @@ static LARGE_FILES: [Case; 8] = [
         told: Err(ImageFault::Address),
     },
     Case {
-        name: "a number stands behind the last one of the index block",
+        name: "there is a number after the last one of the index block",
         large: true,
         small: false,
         lists: &[&FILE, &ELEVEN_BLOCKS, &TWELFTH, &[(17 * 1024 + 4, 20)]],
@@ -424,7 +424,7 @@ static SMALL_FILES: [Case; 8] = [
         told: Err(ImageFault::Bitmap),
     },
     Case {
-        name: "a number stands behind the last one in the small format",
+        name: "there is a number after the last one in the small format",
         large: false,
         small: true,
         lists: &[
@@ -528,7 +528,7 @@ static NAMED: [Case; 12] = [
         told: Err(ImageFault::Entry),
     },
     Case {
-        name: "a file has one name and tells two",
+        name: "a file has one name and a count of two",
         large: true,
         small: true,
         lists: &[&FILE, &[(ROOT + 70, 2)]],
@@ -542,14 +542,14 @@ static NAMED: [Case; 12] = [
         told: Err(ImageFault::Links),
     },
     Case {
-        name: "the root tells too few names",
+        name: "the root counts too few names",
         large: true,
         small: true,
         lists: &[&DIRECTORY, &[(ROOT + 6, 1)]],
         told: Err(ImageFault::Links),
     },
     Case {
-        name: "a directory tells too many names",
+        name: "a directory counts too many names",
         large: true,
         small: true,
         lists: &[&DIRECTORY, &[(ROOT + 70, 2)]],

@@ -97,7 +97,7 @@ static CASES: [Case; 17] = [
         told: Err(ImageFault::Address),
     },
     Case {
-        name: "the double index block's first number is behind the disk",
+        name: "the double index block's first number is past the disk",
         fault: Fault::Number(Index::Double, 0, [0x2c, 1]),
         told: Err(ImageFault::Address),
     },
@@ -112,7 +112,7 @@ static CASES: [Case; 17] = [
         told: Err(ImageFault::Address),
     },
     Case {
-        name: "the leaf's first number is behind the disk",
+        name: "the leaf's first number is past the disk",
         fault: Fault::Number(Index::Leaf, 0, [0x2c, 1]),
         told: Err(ImageFault::Address),
     },

@@ -109,7 +109,7 @@ static FAULTS: [Files; 9] = [
         fault: MakeFault::Name,
     },
     Files {
-        name: "a path stands twice",
+        name: "a path is there twice",
         first: b"/a",
         second: b"/a",
         size: 0,

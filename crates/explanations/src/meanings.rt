@@ -38,7 +38,7 @@ const COMMON: [Meaning; 2] = [
 const MACHINE: [Meaning; 8] = [
     (
         "running",
-        "the script came to its end, and the machine goes on: --report tells what each process does",
+        "the script came to its end, and the machine goes on: --report says what each process does",
     ),
     (
         "halt 2 Device",
@@ -56,7 +56,7 @@ const MACHINE: [Meaning; 8] = [
     ),
     (
         "fault 4 NoMemory",
-        "the host has no memory for so many frames: take fewer",
+        "the host has no memory for that many frames: take fewer",
     ),
     (
         "fault 5 NoInit",
@@ -183,7 +183,7 @@ const MIGRATION: [Meaning; 3] = [
 const PROGRAM: [Meaning; 5] = [
     (
         "fault 1 Magic",
-        "the file does not begin as an ELF file: xv6 asm makes one, and docs/PROGRAMS.md tells how C is compiled",
+        "the file does not begin as an ELF file: xv6 asm makes one, and docs/PROGRAMS.md says how C is compiled",
     ),
     (
         "fault 2 Sizes",
@@ -213,7 +213,7 @@ const ASSEMBLY: [Meaning; 1] = [(
 const BEGINNINGS: [Meaning; 7] = [
     (
         "halt 1 InitEnded",
-        "process 1 ended with that status: -1 of a fault of its own, which --report tells, or killed",
+        "process 1 ended with that status: -1 of a fault of its own, which --report names, or killed",
     ),
     (
         "cannot read standard input",
@@ -258,7 +258,7 @@ const ENDS: [Meaning; 10] = [
     (": 6 Twice", "an earlier line defines the label"),
     (
         ": 7 Align",
-        "an instruction stands at an address that is no multiple of 4 (.pad 4 before it), or an offset is odd",
+        "an instruction has an address that is no multiple of 4 (.pad 4 before it), or an offset is odd",
     ),
     (
         " is named twice",
@@ -273,7 +273,7 @@ const ENDS: [Meaning; 10] = [
 /// What a play prints that waited in vain, and what that means.
 const IN_VAIN: Meaning = (
     ": not reached in ",
-    "the machine didn't come to that in so many steps: --report tells what each process does",
+    "the machine didn't come to that in that many steps: --report says what each process does",
 );
 
 // Where a text is in the lines that have it.

@@ -3,6 +3,7 @@ use Rattle.std.specs.Prelude.{Bool, List, None, Option, Some, false, get_or, is_
 use Rattle.std.specs.Prelude.{option_and_then, option_map, slice_index, true, ℕ, ◌&&◌, ◌==◌, ◌||◌}
 use Rattle.std.specs.List.{list_any}
 use Rattle.causes.specs.Causes.{memory_shown, trap_shown}
+use Rattle.gdbstate.specs.Accesses.{access_at}
 use Rattle.gdbstate.specs.declared.reasons.Break.{Break}
 use Rattle.gdbstate.specs.declared.reasons.Reasons.{Reasons}
 use Rattle.gdbstate.specs.declared.reasons.Stepping.{Stepping}
@@ -60,10 +61,14 @@ at_call calls s seen = is_stop calls (slice_index seen.registers 17)
 abbrev pub faults : Bool → State → ℕ → Bool
 faults at_faults s pid = at_faults && is_some (option_and_then trap_shown (shown_process s pid))
 
+-- the next instruction of a process loads or stores bytes that are watched
+abbrev pub has_access : Reasons → State → ℕ → Bool
+has_access r s pid = list_any (access_at s pid) r.accesses.items
+
 -- a motion ends where this process runs
 abbrev pub stops_at : Reasons → State → Seen → Bool
 stops_at r s seen = has_break r seen.pid seen.pc || is_stepped r.stepping seen.pid seen.pc
-    || at_call r.calls.items s seen || faults r.at_faults s seen.pid
+    || at_call r.calls.items s seen || faults r.at_faults s seen.pid || has_access r s seen.pid
 
 abbrev pub stops_seen : Reasons → State → Option Seen → Bool
 stops_seen r s None = false

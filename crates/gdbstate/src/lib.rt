@@ -1,10 +1,12 @@
 //! What gdb is sent of a machine's state, and in which states its motions end.
 #![tactic(auto)]
 
+mod accesses;
 mod looks;
 mod reasons;
 
+pub use accesses::{AccessWatch, is_accessed};
 pub use looks::{
     NOT_THERE, byte_at, bytes_at, push_memory_of, push_register_of, push_registers_of,
 };
-pub use reasons::{Break, Nowhere, Reasons, Someone, Stepping, Watched, is_ecall, is_stepped};
+pub use reasons::{Break, Reasons, Someone, Stepping, Watched, is_ecall, is_stepped};

@@ -1,11 +1,12 @@
 //! Why a motion ends.
-ghost use Rattle.std.specs.Prelude.{◌≡◌, false, is_some};
+ghost use Rattle.std.specs.Prelude.{◌≡◌, [], IfSome, is_some};
 ghost use Rattle.std.specs.List.{list_any};
-ghost use Rattle.gdbstate.specs.Stops.{at_call, break_at, byte_changed, changed, has_break, is_ecall};
+ghost use Rattle.gdbstate.specs.Stops.{at_call, break_at, byte_changed, changed, has_access, has_break, is_ecall};
 ghost use Rattle.gdbstate.specs.Stops.{is_stepped, same_byte, stops, stops_at, stops_who_runs};
 ghost use Rattle.hart.specs.Stops.{is_stop};
 ghost use Rattle.kernel.specs.Idle.{running_pid};
 
+use crate::accesses::{AccessWatch, is_accessed};
 use crate::looks::byte_at;
 use causes::{cause, word};
 use isa::{Instr, decode};
@@ -44,6 +45,8 @@ pub struct Reasons {
     pub breaks: Vec<Break>,
     /// Bytes that may change.
     pub watched: Vec<Watched>,
+    /// Bytes that may be loaded or stored.
+    pub accesses: Vec<AccessWatch>,
     /// A step that may be done.
     pub stepping: Option<Stepping>,
     /// The numbers of calls before which it ends.
@@ -135,6 +138,26 @@ impl Reasons {
             .any(|one| byte_at(machine, one.pid, one.address) != one.value)
     }
 
+    // Whether the next instruction of a process loads or stores bytes that are watched.
+    fn has_access(&self, machine: &Debuggee, pid: u32) -> bool
+        ensures { result ≡ has_access self.now machine.now.state pid }
+    {
+        self.accesses
+            .iter()
+            .any(|one| is_accessed(machine, pid, one))
+    }
+
+    // The addresses of breaks, where no bytes are watched for loads and stores.
+    fn places(&self) -> Option<&[u64]>
+        ensures { IfSome result
+            (λ places. (places.now ≡ self.now.addresses.items) × (self.now.accesses.items ≡ [])) }
+    {
+        match self.accesses.as_slice() {
+            [] => Some(&self.addresses),
+            _ => None,
+        }
+    }
+
     // Whether a motion ends where this process runs.
     fn stops_at(&self, machine: &Debuggee, seen: &Seen) -> bool
         ensures { result ≡ stops_at self.now machine.now.state seen.now }
@@ -143,6 +166,7 @@ impl Reasons {
             || is_stepped(self.stepping, seen.pid, seen.pc)
             || is_at_call(machine, &self.calls, seen)
             || self.at_faults && cause(machine, seen.pid).is_some()
+            || self.has_access(machine, seen.pid)
     }
 
     // Whether a motion ends because of the process that runs.
@@ -172,25 +196,9 @@ impl Wanted for Reasons {
             return None;
         }
         match self.watched.as_slice() {
-            [] => Some(&self.addresses),
+            [] => self.places(),
             _ => None,
         }
-    }
-}
-
-/// No reason at all.
-#[derive(Clone, Copy)]
-pub struct Nowhere;
-
-impl Wanted for Nowhere {
-    ghost stops = { λ _ _. false };
-
-    fn is_met(&self, _machine: &Debuggee) -> bool {
-        false
-    }
-
-    fn addresses(&self) -> Option<&[u64]> {
-        Some(&[])
     }
 }
 

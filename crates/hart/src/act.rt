@@ -221,10 +221,17 @@ impl Hart {
         }
     }
 
-    /// Does an operation at a pc.
+    /// Does an operation at a pc. Each `Caller` has a copy of its own: a function this large is put in line only where
+    /// it is called once, since the compiler drops the hint below for its size.
     #[inline(always)]
     #[tactic(auto, using(crate::proofs::Acts::op_acts), unfolding(crate::specs::Operations::op_by))]
-    pub fn act<T: Translate>(&mut self, op: &Op, pc: u64, ram: &mut Ram, trans: &mut T) -> Next
+    pub fn act<T: Translate, Caller>(
+        &mut self,
+        op: &Op,
+        pc: u64,
+        ram: &mut Ram,
+        trans: &mut T,
+    ) -> Next
         requires { HoldsInside (T.held trans.old) ram.old }
         ensures { Acts (T.held trans.old) (T.held trans.new) (op_by op.now self.old.registers pc)
             result pc self.old self.new ram.old ram.new }

@@ -36,7 +36,7 @@ fn room(k: usize, end: usize, left: u32) -> usize
 impl Hart {
     // Does the operation of word `k` of the page at address `base`, which has frame `f`.
     #[inline(always)]
-    fn obey<T: Translate>(
+    fn obey<T: Translate, S>(
         &mut self,
         line: &mut Line,
         f: FrameNo,
@@ -54,13 +54,13 @@ impl Hart {
             result (pc_at base k) self.old self.new ram.old ram.new }
     {
         line.read(ram.load_u32(f, 4 * k));
-        self.act(line.op(), base.wrapping_add(4 * k as u64), ram, trans)
+        self.act::<T, S>(line.op(), base.wrapping_add(4 * k as u64), ram, trans)
     }
 
     // Does operations of that page, from one index to another or to the first that jumps. Returns how many were done,
     // and where it goes on.
     #[inline(always)]
-    fn straight<T: Translate>(
+    fn straight<T: Translate, S>(
         &mut self,
         lines: &mut [Line],
         f: FrameNo,
@@ -87,7 +87,7 @@ impl Hart {
     {
         for k in from..end {
             ram.frames_are_whole();
-            match self.obey(&mut lines[k], f, base, k, ram, trans) {
+            match self.obey::<T, S>(&mut lines[k], f, base, k, ram, trans) {
                 Next::Behind => {}
                 Next::At(to) => return ((k - from + 1) as u32, Next::At(to)),
                 Next::Stop(trap) => return ((k - from) as u32, Next::Stop(trap)),
@@ -128,7 +128,7 @@ impl Hart {
         while left > 0 && pc / 4096 * 4096 == base {
             let k = (pc % 4096 / 4) as usize;
             let end = k + room(k, stops.clear_to(base, k), left);
-            let (done, next) = self.straight(lines, f, base, k, end, ram, trans);
+            let (done, next) = self.straight::<T, S>(lines, f, base, k, end, ram, trans);
             left -= done;
             match next {
                 Next::At(to) => {

@@ -18,6 +18,9 @@ use ram::Ram;
 use sv39::Translate;
 use unixmodel::trap::{Access, Cause, Trap};
 
+/// The caller of `act` that does a single instruction.
+pub struct Alone;
+
 impl Hart {
     /// The word at the pc, or `None` where it may not be fetched.
     #[inline]
@@ -49,7 +52,7 @@ impl Hart {
                 address: pc,
             });
         };
-        match self.act(&flatten(word), pc, ram, trans) {
+        match self.act::<T, Alone>(&flatten(word), pc, ram, trans) {
             Next::Behind => {
                 self.pc = pc.wrapping_add(4);
                 None

@@ -78,7 +78,7 @@ fn program_of<H: Host>(
 }
 
 /// Whether `as` takes a text.
-pub fn takes<H: Host>(alloc: Global, name: &str, text: &[u8], host: &mut H) -> bool {
+pub(crate) fn takes<H: Host>(alloc: Global, name: &str, text: &[u8], host: &mut H) -> bool {
     let file = File { name, text };
     match assembly_texts::read(alloc, &mut Included(host), &[file]) {
         Ok(program) => make(alloc, &program).is_ok(),

@@ -75,7 +75,7 @@ impl ImageFault {
             Self::SharedBlock => "a block is named twice",
             Self::Bitmap => "the bitmap doesn't mark the blocks that are in use",
             Self::Size => "an inode has a size that its type can't have",
-            Self::Entry => "a place of a directory is wrong",
+            Self::Entry => "an entry of a directory is wrong",
             Self::Links => "a count of links is wrong",
             Self::Unreached => "an inode in use isn't reached from the root",
             Self::Device => "a device access failed",

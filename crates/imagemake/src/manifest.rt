@@ -75,7 +75,7 @@ impl MakeFault {
     fn text(&self) -> &'static str {
         match self {
             Self::Name => "a path or a name in it is wrong",
-            Self::Twice => "a name stands twice",
+            Self::Twice => "a name is there twice",
             Self::Blocks => "the blocks don't suffice",
             Self::Inodes => "the inodes don't suffice",
             Self::Parent => "a directory isn't there",

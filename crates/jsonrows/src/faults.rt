@@ -1,21 +1,24 @@
 //! Faults.
-ghost use Rattle.std.specs.Prelude.{◌≡◌};
+ghost use Rattle.std.specs.Prelude.{◌≡◌, is_some};
 ghost use Rattle.jsonrows.specs.Causes.{cause_word};
 
+use crate::locations::LocationRow;
 use crate::texts::{Latin, Printed};
-use causes::{Fault, Why};
+use addresses::Name;
+use causes::{Named, Why};
 use isa::register_name;
 use serde::{Described, Serialize, Serializer};
 use unixmodel::instr::Reg;
 use unixmodel::trap::Cause;
 
-/// Why a page may not be accessed.
+/// Why a page may not be accessed, or a jump not done.
 #[derive(Clone, Copy, Serialize)]
 #[serde(rename_all = "snake_case")]
 enum Reason {
     NoPage,
     Guard,
     Closed,
+    Compressed,
 }
 
 /// The registers except x0, by their names.
@@ -46,8 +49,11 @@ pub struct FaultRow<'a> {
     pc: u64,
     address: u64,
     word: Option<u32>,
-    words: Printed<Fault>,
+    words: Printed<Named<Name<'a>>>,
     registers: Registers,
+    /// What is known of the pc. It is left out where that is nothing.
+    #[serde(skip_serializing_if = "Option::is_none")]
+    location: Option<LocationRow<'a>>,
 }
 
 // The word of a cause.
@@ -67,7 +73,7 @@ fn cause_word(cause: Cause) -> &'static str
     }
 }
 
-// Why the page may not be accessed, and the word that is no instruction.
+// Why the page may not be accessed or the jump not done, and the word that is no instruction.
 fn explained(why: Why) -> (Option<Reason>, Option<u32>) {
     match why {
         Why::Cause => (None, None),
@@ -75,25 +81,28 @@ fn explained(why: Why) -> (Option<Reason>, Option<u32>) {
         Why::NoPage => (Some(Reason::NoPage), None),
         Why::Guard => (Some(Reason::Guard), None),
         Why::Closed => (Some(Reason::Closed), None),
+        Why::Compressed => (Some(Reason::Compressed), None),
     }
 }
 
 impl<'a> FaultRow<'a> {
-    /// A fault of the process with a pid, whose program has this name, at an event.
+    /// A fault of the process with a pid, whose program has this name, at an event. Its pc may have a name, too.
     pub fn new(
         at: u64,
         pid: u32,
         program: Option<Latin<'a>>,
-        fault: Fault,
+        named: Named<Name<'a>>,
         registers: &[u64; 32],
     ) -> FaultRow<'a>
         ensures at { result.at ≡ at }
         ensures pid { result.pid ≡ pid }
-        ensures cause { result.cause.now ≡ cause_word fault.trap.cause }
-        ensures pc { result.pc ≡ fault.pc }
-        ensures address { result.address ≡ fault.trap.address }
+        ensures cause { result.cause.now ≡ cause_word named.entry.fault.trap.cause }
+        ensures pc { result.pc ≡ named.entry.fault.pc }
+        ensures address { result.address ≡ named.entry.fault.trap.address }
+        ensures location { is_some result.location ≡ is_some named.entry.name }
         ensures registers { result.registers.0 ≡ registers.now }
     {
+        let fault = named.fault;
         let (reason, word) = explained(fault.why);
         FaultRow {
             at,
@@ -104,8 +113,9 @@ impl<'a> FaultRow<'a> {
             pc: fault.pc,
             address: fault.trap.address,
             word,
-            words: Printed(fault),
+            words: Printed(named),
             registers: Registers(*registers),
+            location: LocationRow::of(named.name),
         }
     }
 }

@@ -7,7 +7,8 @@ mod call_rows;
 mod descriptors;
 mod ends;
 mod faults;
-mod lines;
+mod jsonl;
+mod locations;
 #[cfg(test)]
 mod tests;
 mod texts;
@@ -17,6 +18,7 @@ pub use call_rows::{Argument, CallRow, Handed, WaitRow};
 pub use descriptors::{DescriptorRow, Descriptors, OnRow, descriptor_rows, descriptors_of};
 pub use ends::{EndedRow, ExitRow, How};
 pub use faults::FaultRow;
-pub use lines::{BeginRow, EndRow, Kind, TurnRow, VERSION, line};
+pub use jsonl::{BeginRow, EndRow, Kind, TurnRow, VERSION, line};
+pub use locations::LocationRow;
 pub use texts::{Bytes, Latin, Printed};
 pub use waiting::{WaitsRow, can_end, waits_row};

@@ -2,7 +2,7 @@
 
 use crate::call_rows::{Argument, CallRow, Handed};
 use crate::ends::{EndedRow, ExitRow, How};
-use crate::lines::{BeginRow, EndRow, Kind, TurnRow, VERSION, line};
+use crate::jsonl::{BeginRow, EndRow, Kind, TurnRow, VERSION, line};
 use crate::texts::{Bytes, Latin, Printed};
 use std::alloc::{AllocError, Global};
 use tracetext::CallName;

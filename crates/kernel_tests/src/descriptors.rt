@@ -112,7 +112,7 @@ struct Case {
 
 static CASES: [Case; 7] = [
     Case {
-        name: "a file takes the lowest place",
+        name: "a file takes the lowest slot",
         rows: &[
             Row::Open(FILE, Ok(0)),
             Row::Open(FILE, Ok(1)),
@@ -125,7 +125,7 @@ static CASES: [Case; 7] = [
         ],
     },
     Case {
-        name: "there are a hundred places",
+        name: "there are a hundred slots",
         rows: &[
             Row::Fill(FILE),
             Row::FreePlaces(0),

@@ -260,7 +260,7 @@ static CASES: [Case; 7] = [
         ],
     },
     Case {
-        name: "places have pages of their own",
+        name: "slots have pages of their own",
         frames: 64,
         first: &[],
         acts: &[
@@ -294,7 +294,7 @@ static CASES: [Case; 7] = [
         ],
     },
     Case {
-        name: "the active place runs",
+        name: "the active slot runs",
         frames: 64,
         first: LOADED,
         acts: &[

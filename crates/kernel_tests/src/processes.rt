@@ -254,7 +254,7 @@ static CASES: [Case; 6] = [
         ],
     },
     Case {
-        name: "all places are filled",
+        name: "all slots are filled",
         first_pid: 1,
         acts: &[
             Act::Alloc(0, Ok((0, 1))),
@@ -305,7 +305,7 @@ static CASES: [Case; 6] = [
         ],
     },
     Case {
-        name: "a process is put in the place of another",
+        name: "a process is put in the slot of another",
         first_pid: 1,
         acts: &[
             Act::Alloc(0, Ok((0, 1))),

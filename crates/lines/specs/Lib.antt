@@ -1,1 +1,3 @@
+pub mod Covering
+pub mod Found
 pub mod Machine

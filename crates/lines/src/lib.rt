@@ -6,6 +6,7 @@
 mod bytes;
 mod files;
 mod operation;
+mod ordered;
 mod registers;
 mod rows;
 mod table;

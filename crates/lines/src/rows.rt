@@ -17,9 +17,8 @@ pub(crate) struct Row {
 /// Rows of addresses that rise. The last of them is of the first address after the sequence.
 #[derive(Clone, Copy, Debug, PartialEq, Eq)]
 pub(crate) struct Sequence {
-    /// The first row's address, and the last row's.
+    /// The first row's address.
     pub start: u64,
-    pub end: u64,
     /// The index of its first row, and that of the row after its last.
     pub first: usize,
     pub after: usize,
@@ -35,7 +34,7 @@ pub(crate) struct Rows {
 }
 
 impl Rows {
-    pub fn new(alloc: Global) -> Rows {
+    pub(crate) fn new(alloc: Global) -> Rows {
         Rows {
             rows: Vec::new(alloc),
             sequences: Vec::new(alloc),
@@ -63,7 +62,6 @@ impl Rows {
         if start.address < end.address {
             let sequence = Sequence {
                 start: start.address,
-                end: end.address,
                 first,
                 after: self.rows.len(),
                 unit,

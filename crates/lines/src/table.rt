@@ -1,7 +1,12 @@
 //! The lines of a file's addresses.
 
+ghost use Rattle.std.specs.Prelude.{◌≡◌, ◌==◌, if◌then◌else◌, slice_get};
+ghost use Rattle.lines.specs.Found.{IsLineAt, file_name, files_of, line_seen, name_text};
+ghost use Rattle.lines.specs.Found.{row_line, without_directory};
+
 use crate::files::{FileName, files};
-use crate::rows::{Row, Rows, Sequence};
+use crate::ordered::Ordered;
+use crate::rows::{Row, Rows};
 use crate::unit::extent_at;
 use sections::{Sections, text_at};
 use std::alloc::{AllocError, Global};
@@ -9,8 +14,7 @@ use std::alloc::{AllocError, Global};
 /// The lines of a file's addresses.
 #[derive(Drop)]
 pub struct Lines<'a> {
-    rows: Vec<Row>,
-    sequences: Vec<Sequence>,
+    ordered: Ordered,
     units: Vec<Vec<FileName<'a>>>,
     strings: &'a [u8],
     line_strings: &'a [u8],
@@ -25,12 +29,22 @@ pub struct Line<'a> {
     pub line: u64,
 }
 
+// The first text after '/', the second after any other character.
+fn chosen<'a>(c: u8, first: &'a [u8], second: &'a [u8]) -> &'a [u8]
+    ensures { result.now ≡ (if c == 47 then first.now else second.now) }
+{
+    if c == b'/' { first } else { second }
+}
+
 // A name without the directory before it.
-fn without_directory(name: &[u8]) -> &[u8] {
-    match name.iter().rposition(|byte| *byte == b'/') {
-        Some(slash) => &name[slash + 1..],
-        None => name,
+fn without_directory(name: &[u8]) -> &[u8]
+    ensures { result.now ≡ without_directory name.now }
+{
+    let mut rest = name;
+    for (index, c) in name.iter().enumerate() {
+        rest = chosen(*c, &name[index + 1..], rest);
     }
+    rest
 }
 
 impl<'a> Lines<'a> {
@@ -50,65 +64,62 @@ impl<'a> Lines<'a> {
             }
             rest = after;
         }
-        let Rows {
-            rows,
-            mut sequences,
-        } = all;
-        sequences.sort_by_key(|sequence| sequence.start)?;
+        let Rows { rows, sequences } = all;
         Ok(Lines {
-            rows,
-            sequences,
+            ordered: Ordered::of(alloc, rows, &sequences)?,
             units,
             strings: sections.named(b".debug_str"),
             line_strings: sections.named(b".debug_line_str"),
         })
     }
 
-    // The sequence that has an address: of those that begin nearest before it, the first in the file. A linker leaves
-    // the sequences of what it discards at address 0.
-    fn sequence(&self, address: u64) -> Option<Sequence> {
-        let after = self
-            .sequences
-            .partition_point(|sequence| sequence.start <= address);
-        let start = self.sequences.get(after.checked_sub(1)?)?.start;
-        let first = self
-            .sequences
-            .partition_point(|sequence| sequence.start < start);
-        let sequence = *self.sequences.get(first)?;
-        (address < sequence.end).then_some(sequence)
+    // The text of a file's name.
+    fn text(&self, name: Option<FileName<'a>>) -> &'a [u8]
+        ensures { result.now ≡ name_text self.now name.entry }
+    {
+        match name {
+            Some(FileName::Here(name)) => name,
+            Some(FileName::Strings(offset)) => text_at(self.strings, offset),
+            Some(FileName::LineStrings(offset)) => text_at(self.line_strings, offset),
+            Some(FileName::Unknown) | None => &[],
+        }
     }
 
-    // The row of a sequence that has an address.
-    fn row(&self, sequence: Sequence, address: u64) -> Option<Row> {
-        let rows = self.rows.get(sequence.first..sequence.after)?;
-        let after = rows.partition_point(|row| row.address <= address);
-        let row = *rows.get(after.checked_sub(1)?)?;
-        let next = rows.get(after)?;
-        (row.address <= address && address < next.address).then_some(row)
-    }
-
-    // The name of a file by its number in a unit.
-    fn name(&self, unit: usize, file: u64) -> Option<&'a [u8]> {
+    // A unit's file, by their numbers.
+    fn file(&self, unit: usize, file: u64) -> Option<FileName<'a>>
+        ensures { result ≡ slice_get (files_of (slice_get self.now.units.items unit)) file }
+    {
         let files = self.units.get(unit)?;
-        let name = match files.get(usize::try_from(file).ok()?)? {
-            FileName::Here(name) => *name,
-            FileName::Strings(offset) => text_at(self.strings, *offset),
-            FileName::LineStrings(offset) => text_at(self.line_strings, *offset),
-            FileName::Unknown => return None,
-        };
-        Some(without_directory(name))
+        files.get(usize::try_from(file).ok()?).copied()
     }
 
-    /// The line that an address is of; none for a row of line 0, whose instructions are of no line.
-    pub fn at(&self, address: u64) -> Option<Line<'a>> {
-        let sequence = self.sequence(address)?;
-        let row = self.row(sequence, address)?;
+    // The name of a unit's file, by their numbers; empty where it is not known.
+    fn name(&self, unit: usize, file: u64) -> &'a [u8]
+        ensures { result.now ≡ file_name self.now unit file }
+    {
+        without_directory(self.text(self.file(unit, file)))
+    }
+
+    // The line of a unit's row; none for a row of line 0.
+    fn line_of(&self, unit: usize, row: Option<Row>) -> Option<Line<'a>>
+        ensures { line_seen result ≡ row_line self.now unit row }
+    {
+        let row = row?;
         if row.line == 0 {
             return None;
         }
         Some(Line {
-            file: self.name(sequence.unit, row.file).unwrap_or(b""),
+            file: self.name(unit, row.file),
             line: row.line,
         })
+    }
+
+    /// The line that an address is of: that of the row that covers it in the sequence that begins nearest before it;
+    /// none for a row of line 0, whose instructions are of no line.
+    pub fn at(&self, address: u64) -> Option<Line<'a>>
+        ensures { IsLineAt self.now address result }
+    {
+        let sequence = self.ordered.sequence(address)?;
+        self.line_of(sequence.unit, self.ordered.row(sequence, address))
     }
 }

@@ -18,7 +18,7 @@ pub(crate) enum Format {
 
 impl Format {
     /// An offset.
-    pub fn offset<'a>(self, bytes: &'a [u8]) -> Option<(u64, &'a [u8])> {
+    pub(crate) fn offset<'a>(self, bytes: &'a [u8]) -> Option<(u64, &'a [u8])> {
         match self {
             Format::Narrow => {
                 let (offset, rest) = word(bytes)?;
@@ -108,7 +108,7 @@ fn steps_at(version: u16, bytes: &[u8]) -> Option<(Steps<'_>, &[u8])> {
 
 impl<'a> Extent<'a> {
     /// Its header; `None` for a version other than 2 to 5, and for one that ends too early.
-    pub fn unit(self) -> Option<Unit<'a>> {
+    pub(crate) fn unit(self) -> Option<Unit<'a>> {
         let (version, mut rest) = half(self.bytes)?;
         if version < 2 || version > 5 {
             return None;

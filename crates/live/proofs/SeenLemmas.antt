@@ -3,13 +3,16 @@ use Rattle.live.proofs.Common.{◌≡◌, ◌∙◌, ◌<◌, ◌≤◌, ◌+◌
 use Rattle.live.proofs.Common.{Result, Some, ap, arith, false, inl, inr, refl, replicate, replicate-append-replicate}
 use Rattle.live.proofs.Common.{replicate_more, runs_on, SoFar, Step, step-runs, subst, suc, sym, true, zero}
 use Rattle.calls.specs.declared.halt.Halt.{Halt}
+use Rattle.calls.specs.declared.halt.Halt.TheVariants.{Halted}
+use Rattle.kernel.specs.Idle.{is_idle}
 use Rattle.machine.specs.Gives.{IsDone, RunGives, StepGives}
+use Rattle.machine.specs.Pieces.{IsPiece}
 use Rattle.calls.proofs.Pieces.{run-more}
 use Rattle.calls.specs.Computing.{Computes, after_steps, computes, computes_as, is_done}
 use Rattle.machine.specs.View.{IsUp, View}
 use Rattle.std.proofs.KnownBytes.{Appends-nil}
 use Rattle.std.specs.Prelude.{Bool, option_and_then, ℤ, ◌⊎◌}
-use Rattle.unixmodel.specs.Calls.{After}
+use Rattle.unixmodel.specs.Calls.{After, quiet}
 use Rattle.unixmodel.specs.Meaning.{Effect}
 use Rattle.unixmodel.specs.Next.{acted, effect_of, execute, execute_at, next, step}
 use Rattle.unixmodel.specs.Process.{Process}
@@ -51,6 +54,13 @@ goes-all (suc n) s goes done =
     ∙ run-more (replicate n Step) Step s goes before in
     ap (λ (a : After). a.state.halted) on ∙ goes-one (after_steps s n) before (done n (omega arith))
 
+-- ---- while instructions are done a process runs
+
+busy-by : (s : State) (r : Option ℕ) → running s ≡ r → computes_as (option_and_then (process_at s) r) ≡ true
+    → is_idle s ≡ false
+busy-by s None is done = absurd cc
+busy-by s (Some i) is done = rw is refl
+
 -- ---- a run
 
 computed : {old new : View} {most count : ℕ} {stops : List ℕ} {at : Option (List ℕ)} → IsUp old
@@ -76,6 +86,25 @@ up-in m false None sound goes = inl (record { sound = sound; goes = goes })
 up-in m false (Some status) sound over = inr (λ up. let goes = up.goes in absurd cc)
 up-in m true halted failed over = inr (λ up. let sound = up.sound in absurd cc)
 
+-- ---- the same machine by another name
+
+pub gives-from : {old mid : View} (new : View) (es : List Event) (before after : Option (List ℕ)) (rises : Type 0)
+    (r : Result (Unit {0}) Halt) → mid ≡ old → RunGives mid new es before after rises r
+    → RunGives old new es before after rises r
+gives-from new es before after rises r same h =
+    subst (λ (v : View). RunGives v new es before after rises r) same h
+
+-- a piece of one step is one of more
+pub piece-from : {old mid new : View} {most count : ℕ} {r : Result (Unit {0}) Halt} → mid ≡ old → 0 < most
+    → IsPiece mid new 1 count r → IsPiece old new most count r
+piece-from {old} {mid} {new} {most} {count} {r} same some h =
+    subst (λ (v : View). IsPiece v new most count r) same (record {
+      within = let w = h.within in omega (arith, w, some);
+      busy = h.busy;
+      idle = h.idle;
+      none = h.none;
+    })
+
 -- that many instructions passed, or the machine had stopped
 abbrev pub Passed : View → View → ℕ → Option (List ℕ) → Type 0
 Passed old mid count at = SoFar old mid (replicate count Step) at at ⊎ ((count ≡ 0) × (mid ≡ old))
@@ -87,6 +116,32 @@ module _ {old mid : View} {most count : ℕ} {stops : List ℕ}
   passed at same = elim (up-in old old.failed old.state.halted refl refl) [
     | inl up ↦ inl (computed up (computes up) same)
     | inr not ↦ inr (stopped not)
+  ]
+
+  -- instructions that passed are a piece of the steps
+  pub passed-piece : {u : Unit {0}} → 0 < count → IsPiece old mid most count (Ok u)
+  passed-piece {u} some = elim (up-in old old.failed old.state.halted refl refl) [
+    | inl up ↦ let c = computes up in record {
+      within = c.within;
+      busy = λ done less. record {
+        goes = goes-all done old.state up.goes (λ k under. c.computing k (omega (arith, under, less)));
+        busy = busy-by (after_steps old.state done) (running (after_steps old.state done)) refl
+            (c.computing done less);
+      };
+      idle = λ none. absurd (omega (arith, none, some));
+      none = λ (e : Ok u ≡ Err Halted). absurd cc;
+    }
+    | inr not ↦ absurd (let none = (stopped not).0 in omega (arith, none, some))
+  ]
+
+  -- where none passed nothing has changed
+  pub passed-none : count ≡ 0 → mid ≡ record old { state = mid.state } → mid ≡ old
+  unfolding run
+  passed-none none same = elim (up-in old old.failed old.state.halted refl refl) [
+    | inl up ↦
+        let steps = subst (λ n. run old.state (replicate n Step) ≡ quiet mid.state) none (computes up).steps in
+        same ∙ ap (λ (s : State). record old { state = s }) (sym (ap (λ (a : After). a.state) steps))
+    | inr not ↦ (stopped not).1
   ]
 
   pub passed-within : count ≤ most

@@ -28,7 +28,7 @@ const LOOP: u32 = 8;
 // Gives one event, which is watched. It is inlined, so that the loop of a run has the machine's step in it; its other
 // callers give an event that is known.
 #[inline(always)]
-fn step<D: BlockDev, T: Translate, V: Watch, W: Out>(
+pub(crate) fn step<D: BlockDev, T: Translate, V: Watch, W: Out>(
     machine: &mut Machine<D, T>,
     event: Event,
     watch: &mut V,

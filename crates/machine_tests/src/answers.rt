@@ -85,7 +85,7 @@ static RUNS: [Case; 12] = [
         ],
     },
     Case {
-        name: "calls are answered by the low words",
+        name: "calls are chosen by the low words",
         size: USUAL,
         program: Program::Calls(&[
             [0, 0, 0, 0x1_0000_0000 + GETPID],

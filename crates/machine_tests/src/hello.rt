@@ -157,7 +157,7 @@ static RUNS: [Case; 11] = [
         ],
     },
     Case {
-        name: "its process is told",
+        name: "its process is shown",
         size: USUAL,
         program: HI,
         acts: &[

@@ -47,7 +47,7 @@ const ROOT_OF_5: Stat = Stat {
 static RUNS: [Case; 5] = [
     // Number 0 is never in use, and no inode has number 16.
     Case {
-        name: "each number is told of",
+        name: "each number is shown",
         size: USUAL,
         program: IDLE,
         acts: &[
@@ -98,7 +98,7 @@ static RUNS: [Case; 5] = [
     // Between two steps, and after process 1 has ended: a device comes, and then a directory, which gives the root a
     // link.
     Case {
-        name: "what calls make is told of",
+        name: "what calls make is shown",
         size: USUAL,
         program: Program::Calls(&[
             [NAMES, 2, 0, MKNOD],
@@ -125,7 +125,7 @@ static RUNS: [Case; 5] = [
         ],
     },
     Case {
-        name: "nothing is told once the console has failed",
+        name: "nothing is shown once the console has failed",
         size: (64, 1),
         program: Program::Calls(&[[1, 0, 1, WRITE], [1, 0, 1, WRITE]]),
         acts: &[

@@ -36,7 +36,7 @@ static RUNS: [Case; 3] = [
     // Descriptor 0 is closed and becomes a pipe's read end, the fifth its write end. The program's first bytes go
     // through the pipe, the last ones around the end of its room.
     Case {
-        name: "descriptors are told as they come and go",
+        name: "descriptors are shown as they come and go",
         size: USUAL,
         program: Program::Calls(&[
             [1, 0, 0, DUP],
@@ -86,7 +86,7 @@ static RUNS: [Case; 3] = [
     },
     // A process reads a pipe whose write end its parent holds; one has ended; the parent sleeps.
     Case {
-        name: "an idle machine tells who waits for what",
+        name: "an idle machine shows who waits for what",
         size: USUAL,
         program: Program::Family(&[
             Row(TO_STACK, 1),

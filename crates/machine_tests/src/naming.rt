@@ -84,7 +84,7 @@ static RUNS: [Case; 4] = [
     // The console is device 1's node 2, of type 3 and with one link; the root its node 1, of type 1, with 48 bytes.
     // A slash follows the calls.
     Case {
-        name: "fstat tells what a descriptor is open on",
+        name: "fstat says what a descriptor is open on",
         size: USUAL,
         program: Program::Calls(&[
             [0, BUFFER, 0, FSTAT],
@@ -105,7 +105,7 @@ static RUNS: [Case; 4] = [
         ],
     },
     Case {
-        name: "fstat tells nothing of pipes",
+        name: "fstat says nothing of pipes",
         size: USUAL,
         program: Program::Calls(&[
             [BUFFER, 0, 0, PIPE],

@@ -637,9 +637,9 @@ pub(crate) fn holds_at(rt: &impl Abort, row: usize, holds: bool) {
 
 // All acts of a case go as they say.
 // Else prints its name, the number of the act that doesn't, and how many calls returned what they should before it.
-fn none_wrong(rt: &impl Abort, name: &str, wrong: Option<usize>, answered: usize) {
+fn none_wrong(rt: &impl Abort, name: &str, wrong: Option<usize>, done: usize) {
     if let Some(act) = wrong {
-        assert!(rt; false, "{name}: act {act}, behind {answered} answers");
+        assert!(rt; false, "{name}: act {act}, after {done} calls");
     }
 }
 

@@ -237,7 +237,7 @@ static RUNS: [Case; 13] = [
         ],
     },
     Case {
-        name: "a wait that cannot tell leaves the child",
+        name: "a wait that cannot write leaves the child",
         size: USUAL,
         program: Program::Family(&[
             Row([0, 0, 0, FORK], 3),

@@ -1,7 +1,7 @@
 //! Multiplications and divisions beside a table that another language worked out.
 //!
 //! Standard input has a line for each row: an instruction's name and its word, what registers 6 and 7 hold, and what
-//! register 5 holds behind it, in hexadecimal digits. `rows.py` writes such a table. The program does each word on a
+//! register 5 holds after it, in hexadecimal digits. `rows.py` writes such a table. The program does each word on a
 //! hart, and prints how many rows there are; the first row that does not hold ends it with status 1.
 #![tactic(auto)]
 
@@ -22,7 +22,7 @@ struct Row<'a> {
     a: u64,
     /// What register 7 holds.
     b: u64,
-    /// What register 5 has to hold behind the instruction.
+    /// What register 5 has to hold after the instruction.
     wanted: u64,
 }
 
@@ -60,7 +60,7 @@ fn memory(alloc: Global, word: u32) -> anyhow::Result<Ram> {
     Ok(ram)
 }
 
-// What register 5 holds behind a word, where registers 6 and 7 hold a and b.
+// What register 5 holds after a word, where registers 6 and 7 hold a and b.
 fn given(alloc: Global, word: u32, a: u64, b: u64) -> anyhow::Result<u64> {
     let mut ram = memory(alloc, word)?;
     let mut registers = [0; 32];

@@ -45,7 +45,7 @@ impl<W: Write> Tail<W> {
     }
 
     /// Whether the last bytes are these.
-    pub fn ends_with(&self, bytes: &[u8]) -> bool {
+    pub(crate) fn ends_with(&self, bytes: &[u8]) -> bool {
         self.last.as_slice().ends_with(bytes)
     }
 }

@@ -77,7 +77,7 @@ pub struct Fault<'a> {
 
 impl<'a> Fault<'a> {
     /// The word is at fault.
-    pub fn at(word: &'a [u8], why: Why) -> Fault<'a> {
+    pub(crate) fn at(word: &'a [u8], why: Why) -> Fault<'a> {
         Fault { word, why }
     }
 }

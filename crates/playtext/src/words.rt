@@ -52,12 +52,12 @@ fn plain_length(bytes: &[u8]) -> usize {
 
 impl<'a> Words<'a> {
     /// The words of a line.
-    pub fn new(line: &'a [u8]) -> Words<'a> {
+    pub(crate) fn new(line: &'a [u8]) -> Words<'a> {
         Words { rest: line }
     }
 
     /// The next word, if there is one. One that begins with a quote goes to the quote that ends it.
-    pub fn next_word(&mut self) -> Option<&'a [u8]> {
+    pub(crate) fn next_word(&mut self) -> Option<&'a [u8]> {
         let bytes = without_blanks(self.rest);
         let length = match bytes.first() {
             None | Some(b'#') => return None,
@@ -69,7 +69,7 @@ impl<'a> Words<'a> {
     }
 
     /// The next word, which has to follow `after`.
-    pub fn want(&mut self, after: &'a [u8]) -> Result<&'a [u8], Fault<'a>> {
+    pub(crate) fn want(&mut self, after: &'a [u8]) -> Result<&'a [u8], Fault<'a>> {
         match self.next_word() {
             Some(word) => Ok(word),
             None => Err(Fault::at(after, Why::Short)),
@@ -77,7 +77,7 @@ impl<'a> Words<'a> {
     }
 
     /// The number that has to follow `after`.
-    pub fn number(&mut self, after: &'a [u8]) -> Result<u32, Fault<'a>> {
+    pub(crate) fn number(&mut self, after: &'a [u8]) -> Result<u32, Fault<'a>> {
         let word = self.want(after)?;
         match count(word) {
             Some(number) => Ok(number),
@@ -86,7 +86,11 @@ impl<'a> Words<'a> {
     }
 
     /// The word `wanted`, which has to follow `after`.
-    pub fn exactly(&mut self, after: &'a [u8], wanted: &'static str) -> Result<(), Fault<'a>> {
+    pub(crate) fn exactly(
+        &mut self,
+        after: &'a [u8],
+        wanted: &'static str,
+    ) -> Result<(), Fault<'a>> {
         let word = self.want(after)?;
         if word == wanted.as_bytes() {
             Ok(())
@@ -104,7 +108,7 @@ impl<'a> Words<'a> {
     }
 
     /// The bytes that are left after one blank, whatever they are.
-    pub fn text(self) -> &'a [u8] {
+    pub(crate) fn text(self) -> &'a [u8] {
         match self.rest.split_first() {
             Some((_blank, text)) => text,
             None => &[],
@@ -136,7 +140,7 @@ fn first_byte(bytes: &[u8]) -> Option<(u8, &[u8])> {
 }
 
 /// The bytes that a quoted word stands for.
-pub fn shown(word: &[u8]) -> Result<ArrayVec<u8, MOST_SHOWN>, Fault<'_>> {
+pub(crate) fn shown(word: &[u8]) -> Result<ArrayVec<u8, MOST_SHOWN>, Fault<'_>> {
     if quoted_length(word) != Some(word.len()) {
         return Err(Fault::at(word, Why::Open));
     }

@@ -44,14 +44,14 @@ pub(crate) fn has_ended<D: BlockDev, T: Translate>(machine: &Machine<D, T>, pid:
 
 impl Kills {
     /// Nobody is marked.
-    pub fn new() -> Kills {
+    pub(crate) fn new() -> Kills {
         Kills {
             marked: ArrayVec::new(),
         }
     }
 
     /// A process is marked, if it was not before.
-    pub fn mark(&mut self, kill: Kill) {
+    pub(crate) fn mark(&mut self, kill: Kill) {
         let is_marked = self.marked.iter().any(|known| known.pid == kill.pid);
         if !is_marked {
             let _ = self.marked.try_push(kill);
@@ -59,7 +59,7 @@ impl Kills {
     }
 
     /// Takes one that has ended.
-    pub fn take_ended<D: BlockDev, T: Translate>(
+    pub(crate) fn take_ended<D: BlockDev, T: Translate>(
         &mut self,
         machine: &Machine<D, T>,
     ) -> Option<Kill> {

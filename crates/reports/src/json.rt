@@ -7,8 +7,8 @@ use crate::reporter::{Fallen, Reporter, pids};
 use crate::who::Who;
 use blockdev::BlockDev;
 use jsonrows::{
-    DescriptorRow, EndedRow, FaultRow, Latin, VERSION, WaitsRow, descriptor_rows, descriptors_of,
-    waits_row,
+    DescriptorRow, EndedRow, FaultRow, Latin, LocationRow, VERSION, WaitsRow, descriptor_rows,
+    descriptors_of, waits_row,
 };
 use machine::{ProcessState, Seen};
 use serde::Serialize;
@@ -87,6 +87,9 @@ struct ProcessRow<'a> {
     size: u64,
     frames: u64,
     descriptors: &'a Vec<DescriptorRow>,
+    /// What is known of the pc. It is left out where that is nothing.
+    #[serde(skip_serializing_if = "Option::is_none")]
+    location: Option<LocationRow<'a>>,
 }
 
 /// The processes and the free frames of a machine at the end of a run.
@@ -144,32 +147,6 @@ fn state_of(state: ProcessState) -> (StateWord, Option<i32>) {
     }
 }
 
-fn process_row(process: &Process) -> ProcessRow<'_> {
-    let seen = &process.seen;
-    let (state, status) = state_of(seen.state);
-    ProcessRow {
-        pid: seen.pid,
-        parent: seen.parent,
-        program: process.who.program(),
-        state,
-        status,
-        waits: &process.waits,
-        killed: seen.killed,
-        pc: seen.pc,
-        size: seen.size,
-        frames: frames_of(seen.size),
-        descriptors: &process.descriptors,
-    }
-}
-
-fn process_rows(alloc: Global, processes: &[Process]) -> Result<Vec<ProcessRow<'_>>, AllocError> {
-    let mut rows = Vec::new(alloc);
-    for process in processes {
-        rows.push(process_row(process))?;
-    }
-    Ok(rows)
-}
-
 fn ended_row(ended: &Ended) -> EndedRow<'_> {
     EndedRow {
         at: ended.at,
@@ -186,25 +163,6 @@ fn ended_rows(alloc: Global, ones: &[Ended]) -> Result<Vec<EndedRow<'_>>, AllocE
     let mut rows = Vec::new(alloc);
     for ended in ones {
         rows.push(ended_row(ended))?;
-    }
-    Ok(rows)
-}
-
-fn fault_row(fallen: &Fallen) -> FaultRow<'_> {
-    let who = &fallen.who;
-    FaultRow::new(
-        fallen.at,
-        who.pid,
-        who.program(),
-        fallen.fault,
-        &fallen.registers,
-    )
-}
-
-fn fault_rows(alloc: Global, faults: &[Fallen]) -> Result<Vec<FaultRow<'_>>, AllocError> {
-    let mut rows = Vec::new(alloc);
-    for fallen in faults {
-        rows.push(fault_row(fallen))?;
     }
     Ok(rows)
 }
@@ -238,6 +196,57 @@ impl<D: BlockDev, T: Translate> Report<'_, D, T> {
 }
 
 impl Reporter {
+    fn fault_row<'a>(&'a self, fallen: &'a Fallen) -> Result<FaultRow<'a>, AllocError> {
+        let who = &fallen.who;
+        Ok(FaultRow::new(
+            fallen.at,
+            who.pid,
+            who.program(),
+            self.named(fallen)?,
+            &fallen.registers,
+        ))
+    }
+
+    fn fault_rows(&self, alloc: Global) -> Result<Vec<FaultRow<'_>>, AllocError> {
+        let mut rows = Vec::new(alloc);
+        for fallen in self.faults() {
+            rows.push(self.fault_row(fallen)?)?;
+        }
+        Ok(rows)
+    }
+
+    fn process_row<'a>(&'a self, process: &'a Process) -> Result<ProcessRow<'a>, AllocError> {
+        let seen = &process.seen;
+        let (state, status) = state_of(seen.state);
+        let name = self.name(&process.who, seen.pc)?;
+        Ok(ProcessRow {
+            pid: seen.pid,
+            parent: seen.parent,
+            program: process.who.program(),
+            state,
+            status,
+            waits: &process.waits,
+            killed: seen.killed,
+            pc: seen.pc,
+            size: seen.size,
+            frames: frames_of(seen.size),
+            descriptors: &process.descriptors,
+            location: LocationRow::of(name),
+        })
+    }
+
+    fn process_rows<'a>(
+        &'a self,
+        alloc: Global,
+        processes: &'a [Process],
+    ) -> Result<Vec<ProcessRow<'a>>, AllocError> {
+        let mut rows = Vec::new(alloc);
+        for process in processes {
+            rows.push(self.process_row(process)?)?;
+        }
+        Ok(rows)
+    }
+
     fn row<'a>(
         &'a self,
         alloc: Global,
@@ -250,9 +259,9 @@ impl Reporter {
             Some(play) => Some(play_row(play)),
             None => None,
         };
-        let processes = process_rows(alloc, left.processes.as_slice())?;
+        let processes = self.process_rows(alloc, left.processes.as_slice())?;
         let ended = ended_rows(alloc, self.ended_ones())?;
-        let faults = fault_rows(alloc, self.faults())?;
+        let faults = self.fault_rows(alloc)?;
         Ok(ReportRow {
             version: VERSION,
             steps: counts.steps,

@@ -44,7 +44,7 @@ pub(crate) enum Stop {
 
 impl Stop {
     /// Why a run stopped that came to this halt.
-    pub fn at(halt: Halt) -> Stop {
+    pub(crate) fn at(halt: Halt) -> Stop {
         match halt {
             Halt::InitEnded(status) => Stop::Ended(status),
             Halt::Device => Stop::Device,

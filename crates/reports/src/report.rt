@@ -1,8 +1,11 @@
 //! The report of a run, as a text.
 
 use crate::outcome::Stop;
-use crate::reporter::{Fallen, Reporter, pids};
+use crate::reporter::{Reporter, pids};
+use crate::who::Who;
+use addresses::Name;
 use blockdev::BlockDev;
+use causes::Named;
 use jsonrows::can_end;
 use machine::{Halt, Machine, OpenOn, Opened, ProcessState, Seen};
 use std::fmt;
@@ -130,13 +133,18 @@ impl<D: BlockDev, T: Translate> fmt::Display for Waiting<'_, D, T> {
 }
 
 // Whose child a process is, where it goes on, and what it takes.
-fn write_place<W: fmt::Write>(f: &mut fmt::Formatter<W>, seen: &Seen) -> fmt::Result {
-    let (parent, pc, size) = (seen.parent, seen.pc, seen.size);
+fn write_place<W: fmt::Write>(
+    f: &mut fmt::Formatter<W>,
+    seen: &Seen,
+    name: Option<Name<'_>>,
+) -> fmt::Result {
+    let (parent, size) = (seen.parent, seen.size);
+    let pc = Pc { pc: seen.pc, name };
     let frames = frames_of(size);
     let killed = if seen.killed { ", killed" } else { "" };
     writeln!(
         f,
-        "; parent {parent}, pc {pc:#x}, {size} bytes, {frames} frames{killed}"
+        "; parent {parent}, pc {pc}, {size} bytes, {frames} frames{killed}"
     )
 }
 
@@ -150,10 +158,36 @@ fn write_opened<W: fmt::Write>(
     writeln!(f, "  {descriptor}: {on}")
 }
 
-// A fault in a line.
-fn write_fault<W: fmt::Write>(f: &mut fmt::Formatter<W>, fallen: &Fallen) -> fmt::Result {
-    let (who, fault) = (fallen.who, fallen.fault);
-    writeln!(f, "fault: {who}: {fault}")
+/// A fault of a process: `pid 3 (oops): load from 0x7000008 at pc 0x88: the process has no page there`.
+#[derive(Clone, Copy)]
+pub struct FaultLine<'a> {
+    pub(crate) who: Who,
+    pub(crate) fault: Named<Name<'a>>,
+}
+
+impl fmt::Display for FaultLine<'_> {
+    fn fmt<W: fmt::Write>(&self, f: &mut fmt::Formatter<W>) -> fmt::Result {
+        let (who, fault) = (self.who, self.fault);
+        write!(f, "{who}: {fault}")
+    }
+}
+
+// A pc, and its name, if it is known: `0x88 in sum+0x10 (oops.c:4)`.
+#[derive(Clone, Copy)]
+struct Pc<'a> {
+    pc: u64,
+    name: Option<Name<'a>>,
+}
+
+impl fmt::Display for Pc<'_> {
+    fn fmt<W: fmt::Write>(&self, f: &mut fmt::Formatter<W>) -> fmt::Result {
+        let pc = self.pc;
+        write!(f, "{pc:#x}")?;
+        match self.name {
+            Some(name) => write!(f, " in {name}"),
+            None => Ok(()),
+        }
+    }
 }
 
 impl<'a, D: BlockDev, T: Translate> Report<'a, D, T> {
@@ -217,7 +251,10 @@ impl<'a, D: BlockDev, T: Translate> Report<'a, D, T> {
         let who = self.reporter.who(seen.pid);
         write!(f, "{who} ")?;
         self.write_doing(f, seen.pid, seen.state)?;
-        write_place(f, seen)?;
+        let Ok(name) = self.reporter.name(&who, seen.pc) else {
+            return Err(fmt::Error);
+        };
+        write_place(f, seen, name)?;
         self.write_descriptors(f, seen.pid)
     }
 
@@ -242,7 +279,10 @@ impl<'a, D: BlockDev, T: Translate> Report<'a, D, T> {
 
     fn write_faults<W: fmt::Write>(&self, f: &mut fmt::Formatter<W>) -> fmt::Result {
         for fallen in self.reporter.faults() {
-            write_fault(f, fallen)?;
+            let Ok(line) = self.reporter.line(fallen) else {
+                return Err(fmt::Error);
+            };
+            writeln!(f, "fault: {line}")?;
         }
         Ok(())
     }

@@ -1,19 +1,22 @@
 //! What is noted while a machine runs.
+ghost use Rattle.std.specs.Prelude.{◌≡◌, None};
 
 use crate::ended::{Ended, Kill, Kills, has_ended};
 use crate::memory::MemoryReport;
-use crate::registers::RegisterReport;
-use crate::report::Report;
+use crate::registers::{Found, RegisterReport};
+use crate::report::{FaultLine, Report};
 use crate::teller::Wanted;
 use crate::who::{Name, Programs, Who};
+use addresses::Name as PlaceName;
 use arrayvec::ArrayVec;
 use blockdev::BlockDev;
-use causes::{Fault, fault_of, word};
+use causes::{Fault, Named, fault_of, word};
 use jsonrows::How;
 use machine::{Halt, Machine, Seen};
-use std::alloc::Global;
+use std::alloc::{AllocError, Global};
 use std::fmt;
 use sv39::Translate;
+use symbolizer::Symbolizer;
 use unixmodel::event::Event;
 
 /// How many faults are kept; those that come later are counted.
@@ -55,11 +58,11 @@ enum Next {
 
 /// A process that a fault ended, at the event of this number, and its registers then.
 #[derive(Clone, Copy)]
-pub(crate) struct Fallen {
-    pub at: u64,
-    pub who: Who,
-    pub fault: Fault,
-    pub registers: [u64; 32],
+pub struct Fallen {
+    pub(crate) at: u64,
+    pub(crate) who: Who,
+    pub(crate) fault: Fault,
+    pub(crate) registers: [u64; 32],
 }
 
 /// How many events of each kind there were.
@@ -89,11 +92,14 @@ pub struct Reporter {
     running: u32,
     next: Next,
     programs: Programs,
+    symbolizer: Symbolizer,
     faults: Vec<Fallen>,
     // How many faults came that aren't kept.
     more_faults: u64,
     // The fault of the process whose registers are wanted.
     crash: Option<Fallen>,
+    // The last fault, if it is to be printed as it comes and was not taken.
+    news: Option<Fallen>,
     kills: Kills,
     ended_ones: Vec<Ended>,
     // How many processes ended that aren't kept.
@@ -169,8 +175,9 @@ fn answer<D: BlockDev, T: Translate>(machine: &Machine<D, T>, pid: u32) -> Optio
 }
 
 impl Reporter {
-    /// Watches from the boot of a machine, whose first program has this name, for what is wanted.
-    pub fn new(alloc: Global, first: &[u8], wanted: Wanted) -> Reporter {
+    /// Watches from the boot of a machine, whose first program has this name, for what is wanted. Addresses have the
+    /// names of a symbolizer.
+    pub fn new(alloc: Global, first: &[u8], wanted: Wanted, symbolizer: Symbolizer) -> Reporter {
         Reporter {
             wanted,
             counts: Counts {
@@ -182,9 +189,11 @@ impl Reporter {
             running: 1,
             next: Next::Other,
             programs: Programs::new(Name::new(first)),
+            symbolizer,
             faults: Vec::new(alloc),
             more_faults: 0,
             crash: None,
+            news: None,
             kills: Kills::new(),
             ended_ones: Vec::new(alloc),
             more_ended: 0,
@@ -194,7 +203,7 @@ impl Reporter {
     /// Whether it watches calls, faults and turns. For the pages of a process alone, it looks after the last event.
     pub fn sees_calls(&self) -> bool {
         let wanted = self.wanted;
-        wanted.report || wanted.json || wanted.registers.is_some()
+        wanted.report || wanted.json || wanted.registers.is_some() || wanted.faults
     }
 
     /// What is wanted of the run.
@@ -203,7 +212,7 @@ impl Reporter {
     }
 
     /// The report of the machine after its last event.
-    pub fn report<'a, D: BlockDev, T: Translate>(
+    pub(crate) fn report<'a, D: BlockDev, T: Translate>(
         &'a self,
         machine: &'a Machine<D, T>,
     ) -> Report<'a, D, T> {
@@ -211,25 +220,66 @@ impl Reporter {
     }
 
     /// The registers of a process of the machine.
-    pub fn registers<D: BlockDev, T: Translate>(
+    pub(crate) fn registers<D: BlockDev, T: Translate>(
         &self,
         machine: &Machine<D, T>,
         pid: u32,
-    ) -> RegisterReport {
+    ) -> Result<RegisterReport<'_>, AllocError> {
         let crash = match self.crash {
             Some(fallen) if fallen.who.pid == pid => Some(fallen),
             _ => None,
         };
-        RegisterReport::new(self.who(pid), machine.inspect(pid), crash)
+        let found = Found::of(machine.inspect(pid), crash);
+        let who = match found {
+            Found::AtFault(fallen) => fallen.who,
+            Found::There(_) | Found::Nowhere => self.who(pid),
+        };
+        let name = match found.pc() {
+            Some(pc) => self.name(&who, pc)?,
+            None => None,
+        };
+        Ok(RegisterReport { who, found, name })
+    }
+
+    /// The name of an address of a process's program, if it is known.
+    pub(crate) fn name(&self, who: &Who, pc: u64) -> Result<Option<PlaceName<'_>>, AllocError> {
+        match &who.name {
+            Some(name) => self.symbolizer.at(name.shown(), pc),
+            None => Ok(None),
+        }
+    }
+
+    /// A fault, with the name of its pc, if that is known.
+    pub(crate) fn named(&self, fallen: &Fallen) -> Result<Named<PlaceName<'_>>, AllocError> {
+        Ok(Named {
+            fault: fallen.fault,
+            name: self.name(&fallen.who, fallen.fault.pc)?,
+        })
+    }
+
+    /// The line of a fault.
+    pub fn line(&self, fallen: &Fallen) -> Result<FaultLine<'_>, AllocError> {
+        Ok(FaultLine {
+            who: fallen.who,
+            fault: self.named(fallen)?,
+        })
     }
 
     /// The pages of a process of the machine.
-    pub fn memory<'a, D: BlockDev, T: Translate>(
+    pub(crate) fn memory<'a, D: BlockDev, T: Translate>(
         &self,
         machine: &'a Machine<D, T>,
         pid: u32,
     ) -> MemoryReport<'a, D, T> {
         MemoryReport::new(self.who(pid), machine)
+    }
+
+    /// Takes the fault of the last event, if it had one and faults are wanted as they come.
+    pub fn take_news(&mut self) -> Option<Fallen>
+        ensures taken { result ≡ self.old.news }
+        ensures left { self.new.news ≡ None }
+    {
+        self.news.take()
     }
 
     pub(crate) fn counts(&self) -> Counts {
@@ -314,6 +364,9 @@ impl Reporter {
     fn keep_fault(&mut self, fallen: Fallen) {
         if self.wanted.registers == Some(fallen.who.pid) {
             self.crash = Some(fallen);
+        }
+        if self.wanted.faults {
+            self.news = Some(fallen);
         }
         if self.faults.len() >= MOST_FAULTS || self.faults.push(fallen).is_err() {
             self.more_faults = self.more_faults.saturating_add(1);

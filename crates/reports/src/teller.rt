@@ -19,6 +19,8 @@ pub struct Wanted {
     pub registers: Option<u32>,
     /// The process whose pages are, where one is.
     pub memory: Option<u32>,
+    /// Whether each fault is as it comes.
+    pub faults: bool,
 }
 
 /// What a machine shows when no more events come.
@@ -64,7 +66,7 @@ impl Reporter {
     ) -> Result<String, AllocError> {
         let mut text = String::new(alloc);
         if let Some(pid) = self.wanted().registers {
-            let registers = self.registers(machine, pid);
+            let registers = self.registers(machine, pid)?;
             write!(text, "{registers}")?;
         }
         if let Some(pid) = self.wanted().memory {

@@ -31,7 +31,7 @@ fn byte_at<D: BlockDev, T: Translate>(
 
 impl Name {
     /// The name of these bytes, of which no more than 127 are kept.
-    pub fn new(text: &[u8]) -> Name {
+    pub(crate) fn new(text: &[u8]) -> Name {
         let mut bytes = [0; LONGEST];
         let length = text.len().min(LONGEST);
         bytes[..length].copy_from_slice(&text[..length]);
@@ -63,8 +63,8 @@ impl Name {
         Latin(self.shown())
     }
 
-    // What is printed of it.
-    fn shown(&self) -> &[u8] {
+    /// What is printed of it: the path.
+    pub(crate) fn shown(&self) -> &[u8] {
         match self.bytes.get(..self.length) {
             Some(shown) => shown,
             None => &self.bytes,
@@ -98,14 +98,14 @@ pub struct Programs {
 
 impl Programs {
     /// Process 1 and its program.
-    pub fn new(first: Name) -> Programs {
+    pub(crate) fn new(first: Name) -> Programs {
         let mut known = [None; 64];
         known[0] = Some((1, first));
         Programs { known }
     }
 
     /// The name of a process's program, if it is known.
-    pub fn name(&self, pid: u32) -> Option<Name> {
+    pub(crate) fn name(&self, pid: u32) -> Option<Name> {
         for entry in &self.known {
             if let Some((known, name)) = entry
                 && *known == pid

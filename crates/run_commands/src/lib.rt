@@ -1,6 +1,7 @@
 //! The commands that run a machine, done over a host's files: scripts, plays and sessions.
 #![tactic(auto)]
 
+mod naming;
 pub mod plays;
 mod progress;
 mod runs;
@@ -10,6 +11,7 @@ mod seat;
 pub mod sessions;
 mod telling;
 
+pub use naming::symbolizer_of;
 pub use progress::{Cleared, Gauge, Meter};
 pub use runs::{keep, read_run, run_watched_over, script_of};
-pub use telling::{Both, Teller, pid_of};
+pub use telling::{Both, Teller, looks_on, pid_of};

@@ -4,11 +4,12 @@ ghost use Rattle.run_commands.specs.Seats.{PlaysOutTo};
 ghost use Rattle.machine.specs.View.{IsUp};
 ghost use Rattle.player.specs.Played.{halts};
 
+use crate::naming::symbolizer_of;
 use crate::progress::{Gauge, Meter};
 use crate::runs::{inner_of, keep, leave, read_run};
 use crate::scribe::Scribe;
 use crate::sessions::end_with;
-use crate::telling::{Both, Teller, looks_on, outcome_of, status_of, tell_kept};
+use crate::telling::{Both, Crier, Teller, looks_on, outcome_of, status_of, tell_kept};
 use blockdev::{BlockDev, FailAt, MemDisk};
 use commandline::{Play, Run, Telling};
 use hosts::{End, Failure, Front, Host, Screen, disk_of, tell};
@@ -307,12 +308,17 @@ fn perform_read<H: Host, S: Screen, W: Write, E: Write>(
     let telling = words.run.telling;
     let mut gauge = Gauge { meter };
     let (gone, teller) = if looks_on(&telling) {
+        let symbolizer = match symbolizer_of(alloc, &image, telling.symbols, host) {
+            Ok(symbolizer) => symbolizer,
+            Err(failure) => return tell(&failure, stderr),
+        };
+        let teller = Teller::new(alloc, "/init", &telling, symbolizer);
         let mut both = Both {
-            first: Teller::new(alloc, "/init", &telling),
+            first: Crier::new(teller, meter, &mut *stderr),
             second: gauge,
         };
         let gone = go(alloc, words, image, play, &mut both, host, stdout);
-        (gone, Some(both.first))
+        (gone, Some(both.first.into_teller()))
     } else {
         (
             go(alloc, words, image, play, &mut gauge, host, stdout),

@@ -1,4 +1,5 @@
 //! The line on a terminal that shows how far a long run is.
+ghost use Rattle.std.specs.Prelude.{◌≡◌, is_some};
 
 use blockdev::BlockDev;
 use hosts::Screen;
@@ -103,14 +104,14 @@ impl<S: Screen> Meter<S> {
     }
 
     /// Counts steps.
-    pub fn count(&self, steps: u32) {
+    pub(crate) fn count(&self, steps: u32) {
         let mut state = self.state.get();
         state.steps = state.steps.saturating_add(u64::from(steps));
         self.state.set(state);
     }
 
     /// Shows how far the run is, where that is due; `more` steps are done besides those that were counted.
-    pub fn show(&self, more: u32) {
+    pub(crate) fn show(&self, more: u32) {
         let Some(screen) = &self.screen else {
             return;
         };
@@ -140,8 +141,37 @@ impl<S: Screen> Meter<S> {
         }
     }
 
+    /// Whether there is a terminal.
+    pub(crate) fn has_screen(&self) -> bool
+        ensures { result ≡ is_some self.now.screen }
+    {
+        self.screen.is_some()
+    }
+
+    /// Takes the line away, and ends the console's last line on the terminal, if it is not empty.
+    pub(crate) fn begin_line(&self) {
+        self.clear();
+        let mut state = self.state.get();
+        if let Some(screen) = &self.screen
+            && state.column > 0
+        {
+            screen.show(&"\n");
+            state.column = 0;
+            self.state.set(state);
+        }
+    }
+
+    // Writes bytes on the terminal, if there is one.
+    fn print(&self, bytes: &[u8]) {
+        if let Some(screen) = &self.screen
+            && let Ok(text) = str::from_utf8(bytes)
+        {
+            screen.show(&text);
+        }
+    }
+
     /// Takes the line away; the next one is due later, as of a run that begins.
-    pub fn pause(&self) {
+    pub(crate) fn pause(&self) {
         self.clear();
         if let Some(screen) = &self.screen {
             let mut state = self.state.get();
@@ -223,24 +253,52 @@ impl<S: Screen> Watch for Gauge<'_, S> {
     }
 }
 
+/// The terminal, if there is one, for lines beside the console's bytes. What it doesn't take is lost.
+#[derive(Clone, Copy)]
+pub(crate) struct Aside<'a, S> {
+    pub meter: &'a Meter<S>,
+}
+
+impl<S: Screen> Write for Aside<'_, S> {
+    fn write(&mut self, buf: &[u8]) -> io::Result<usize> {
+        self.meter.print(buf);
+        Ok(buf.len())
+    }
+
+    fn flush(&mut self) -> io::Result<()> {
+        Ok(())
+    }
+}
+
 /// Standard output, before whose bytes the line is taken away.
 #[derive(Drop)]
 pub struct Cleared<'a, 'b, W, S> {
     out: &'a mut W,
     meter: &'b Meter<S>,
+    // Whether bytes are written out at once, so that what is printed beside them comes after them.
+    is_prompt: bool,
 }
 
 impl<'a, 'b, W: Write, S: Screen> Cleared<'a, 'b, W, S> {
-    /// The output over another one.
-    pub fn new(out: &'a mut W, meter: &'b Meter<S>) -> Self {
-        Cleared { out, meter }
+    /// The output over another one; `is_prompt` says whether bytes are written out at once.
+    pub fn new(out: &'a mut W, meter: &'b Meter<S>, is_prompt: bool) -> Self {
+        Cleared {
+            out,
+            meter,
+            is_prompt,
+        }
     }
 }
 
 impl<W: Write, S: Screen> Write for Cleared<'_, '_, W, S> {
     fn write(&mut self, buf: &[u8]) -> io::Result<usize> {
         self.meter.writes(buf);
-        self.out.write(buf)
+        let count = self.out.write(buf)?;
+        if self.is_prompt {
+            // Where that fails, it fails again at the last flush, which is reported.
+            let _ = self.out.flush();
+        }
+        Ok(count)
     }
 
     fn flush(&mut self) -> io::Result<()> {

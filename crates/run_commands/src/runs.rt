@@ -247,7 +247,7 @@ pub fn flat<'a, H: Host, V: Watch, W: Write>(
 }
 
 /// The same, each of whose events is watched.
-pub fn flat_watched<'a, H: Host, V: Watch, W: Write>(
+pub(crate) fn flat_watched<'a, H: Host, V: Watch, W: Write>(
     alloc: Global,
     words: Flat<'a>,
     host: &mut H,
@@ -322,20 +322,6 @@ pub fn run<'a, H: Host, V: Watch, W: Write>(
     let script = script_of(alloc, words.script, bytes.as_slice())?;
     let disk = disk_of(image)?;
     run_over(alloc, words, disk, script.as_slice(), watch, stdout)
-}
-
-/// The same, each of whose events is watched.
-pub fn run_watched<'a, H: Host, V: Watch, W: Write>(
-    alloc: Global,
-    words: Run<'a>,
-    host: &mut H,
-    watch: &mut V,
-    stdout: &mut W,
-) -> Result<(End, Option<MemDisk>), Failure<'a>> {
-    let (image, bytes) = read_run(host, &words)?;
-    let script = script_of(alloc, words.script, bytes.as_slice())?;
-    let disk = disk_of(image)?;
-    run_watched_over(alloc, words, disk, script.as_slice(), watch, stdout)
 }
 
 /// Writes the image of the disk that is left, if there is one, to the file of this name.

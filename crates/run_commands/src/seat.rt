@@ -81,7 +81,7 @@ pub struct Seat<'a, 'b, H, S, E> {
 
 impl<'a, 'b, H: Host, S: Screen, E: Write> Seat<'a, 'b, H, S, E> {
     /// A terminal over a host, whose record goes to the file of this name, which is there.
-    pub fn new(
+    pub(crate) fn new(
         alloc: Global,
         host: &'b mut H,
         meter: &'b Meter<S>,
@@ -183,7 +183,7 @@ fn meaning(is_terminal: bool, is_escaped: bool, byte: u8) -> Typed
 }
 
 /// Writes a line of a record.
-pub fn write_line(lines: &mut String, moved: Move<'_>) -> Result<(), AllocError> {
+pub(crate) fn write_line(lines: &mut String, moved: Move<'_>) -> Result<(), AllocError> {
     match moved {
         Move::Steps(0) | Move::Keys(&[]) => Ok(()),
         Move::Steps(count) => writeln!(lines, "step {count}"),

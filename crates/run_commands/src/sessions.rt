@@ -6,19 +6,22 @@ ghost use Rattle.run_commands.specs.Seats.{SatTo, SitsOutTo};
 ghost use Rattle.hosts.specs.declared.report.End.TheVariants.{Halted};
 ghost use Rattle.machine.specs.View.{IsUp};
 
+use crate::naming::symbolizer_of;
 use crate::progress::Meter;
 use crate::runs::{Ran, end_of, keep, leave};
 use crate::seat::Seat;
+use crate::telling::Crier;
 use blockdev::{BlockDev, MemDisk};
 use commandline::Live;
 use console::Writer;
-use hosts::{End, Failure, Host, Screen, disk_of, read_image, tell, write};
-use live::Terminal;
+use hosts::{End, Failure, Front, Host, Screen, disk_of, read_image, tell, write};
 use live::session::session;
+use live::{Terminal, Watch};
 use machine::{Halt, Machine, boot};
 use std::alloc::Global;
 use std::io::Write;
 use sv39::{Tlb, Translate};
+use symbolizer::Symbolizer;
 
 /// How many steps there are between two ticks by default.
 const QUANTUM: u32 = 10_000;
@@ -45,10 +48,11 @@ pub fn end_with(ended: Result<(), Halt>, failures: u64, is_written: bool) -> End
 }
 
 // A session at a terminal, whose bytes for the console are written out.
-fn sit_out<D: BlockDev, T: Translate, S: Terminal, W: Write>(
+fn sit_out<D: BlockDev, T: Translate, S: Terminal, V: Watch, W: Write>(
     machine: &mut Machine<D, T>,
     quantum: u32,
     terminal: &mut S,
+    watch: &mut V,
     stdout: W,
 ) -> (End, W)
     requires { IsUp machine.old }
@@ -56,7 +60,7 @@ fn sit_out<D: BlockDev, T: Translate, S: Terminal, W: Write>(
         result }
 {
     let mut out = Writer::new(stdout);
-    let ended = session(machine, quantum, terminal, &mut out);
+    let ended = session(machine, quantum, terminal, watch, &mut out);
     let failures = out.failures();
     let mut stdout = out.into_inner();
     let is_written = stdout.flush().is_ok();
@@ -64,10 +68,11 @@ fn sit_out<D: BlockDev, T: Translate, S: Terminal, W: Write>(
 }
 
 // A session at a terminal; then the machine is saved, if it is to be and neither its device nor the console has failed.
-fn sit<D: BlockDev, T: Translate, S: Terminal, W: Write>(
+fn sit<D: BlockDev, T: Translate, S: Terminal, V: Watch, W: Write>(
     mut machine: Machine<D, T>,
     quantum: u32,
     terminal: &mut S,
+    watch: &mut V,
     saves: bool,
     stdout: W,
 ) -> Ran<D, W>
@@ -75,20 +80,19 @@ fn sit<D: BlockDev, T: Translate, S: Terminal, W: Write>(
     ensures { SatTo D.content D.identity D.failures W.contents S.gives S.kept quantum terminal.old
         terminal.new machine stdout saves result }
 {
-    let (end, stdout) = sit_out(&mut machine, quantum, terminal, stdout);
+    let (end, stdout) = sit_out(&mut machine, quantum, terminal, watch, stdout);
     let (end, disk) = leave(machine, saves, end);
     Ran { end, disk, stdout }
 }
 
 // Boots the machine of an image.
-fn boot_image<'a, H: Host>(
+fn boot_image<'a>(
     alloc: Global,
     words: &Live<'a>,
-    host: &mut H,
+    image: Front,
 ) -> Result<Machine<MemDisk, Tlb<64>>, Failure<'a>>
     ensures { IfOk result IsUp }
 {
-    let image = read_image(host, words.image)?;
     let disk = disk_of(image)?;
     match boot(alloc, disk, Tlb::<64>::new(), words.frames) {
         Ok(machine) => Ok(machine),
@@ -113,11 +117,25 @@ fn live<'a, H: Host, S: Screen, W: Write, E: Write>(
     stdout: &mut W,
     stderr: &mut E,
 ) -> Result<(End, Result<(), Failure<'a>>), Failure<'a>> {
-    let machine = boot_image(alloc, words, host)?;
+    let image = read_image(host, words.image)?;
+    let symbolizer = if meter.has_screen() {
+        symbolizer_of(alloc, &image, words.symbols, host)?
+    } else {
+        Symbolizer::new(alloc)
+    };
+    let machine = boot_image(alloc, words, image)?;
     begin_record(words.script, host)?;
     let mut seat = Seat::new(alloc, host, meter, stderr, words.terminal, words.script);
+    let mut crier = Crier::on_screen(alloc, meter, symbolizer);
     let saves = words.save.is_some();
-    let ran = sit(machine, quantum_of(words), &mut seat, saves, stdout);
+    let ran = sit(
+        machine,
+        quantum_of(words),
+        &mut seat,
+        &mut crier,
+        saves,
+        stdout,
+    );
     let recorded = seat.finish();
     let saved = keep(words.save, ran.disk, host);
     Ok((ran.end, recorded.and(saved)))

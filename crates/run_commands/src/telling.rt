@@ -1,15 +1,18 @@
 //! What is reported of a run besides the console's bytes and how it ended.
+ghost use Rattle.std.specs.Prelude.{◌≡◌};
 
+use crate::progress::{Aside, Meter};
 use blockdev::BlockDev;
 use commandline::Telling;
-use hosts::{End, Failure, Host, write};
+use hosts::{End, Failure, Host, Screen, write};
 use live::{Detail, Watch};
 use machine::{Halt, Machine};
-use reports::{Looked, Outcome, PlayEnd, Reporter, Told, Wanted};
+use reports::{Fallen, FaultLine, Looked, Outcome, PlayEnd, Reporter, Told, Wanted};
 use std::alloc::{AllocError, Global};
 use std::io::Write;
 use std::num::NonZeroU64;
 use sv39::Translate;
+use symbolizer::Symbolizer;
 use unixmodel::event::Event;
 
 /// Watches a run, and keeps what is to be reported of it.
@@ -29,19 +32,52 @@ pub fn pid_of(number: Option<NonZeroU64>) -> Option<u32> {
 }
 
 impl Teller {
-    /// Watches a run whose first program has this name.
-    pub fn new(alloc: Global, first: &str, telling: &Telling<'_>) -> Teller {
+    /// Watches a run whose first program has this name. Addresses have the names of a symbolizer.
+    pub fn new(
+        alloc: Global,
+        first: &str,
+        telling: &Telling<'_>,
+        symbolizer: Symbolizer,
+    ) -> Teller {
         let wanted = Wanted {
             report: telling.report,
             json: telling.json.is_some(),
             registers: pid_of(telling.registers),
             memory: pid_of(telling.memory),
+            faults: telling.faults,
         };
+        Teller::of(alloc, first, wanted, symbolizer)
+    }
+
+    // Watches for what is wanted.
+    fn of(alloc: Global, first: &str, wanted: Wanted, symbolizer: Symbolizer) -> Teller {
         Teller {
             alloc,
-            reporter: Reporter::new(alloc, first.as_bytes(), wanted),
+            reporter: Reporter::new(alloc, first.as_bytes(), wanted, symbolizer),
             looked: None,
         }
+    }
+
+    // Watches for faults alone, if they are wanted.
+    fn of_faults(alloc: Global, first: &str, faults: bool, symbolizer: Symbolizer) -> Teller {
+        let wanted = Wanted {
+            report: false,
+            json: false,
+            registers: None,
+            memory: None,
+            faults,
+        };
+        Teller::of(alloc, first, wanted, symbolizer)
+    }
+
+    // Takes the fault of the last event, if it is to be printed now.
+    fn take_news(&mut self) -> Option<Fallen> {
+        self.reporter.take_news()
+    }
+
+    // The line of a fault.
+    fn line(&self, fallen: &Fallen) -> Result<FaultLine<'_>, AllocError> {
+        self.reporter.line(fallen)
     }
 
     // What it says of a run that ended so, if it looked at the end.
@@ -86,6 +122,74 @@ impl Watch for Teller {
 
     fn end<D: BlockDev, T: Translate>(&mut self, machine: &Machine<D, T>) {
         self.looked = Some(self.reporter.look(self.alloc, machine));
+    }
+}
+
+/// A teller that prints faults as they come, if they are wanted, each on a line of its own.
+#[derive(Drop)]
+pub(crate) struct Crier<'a, S, W> {
+    teller: Teller,
+    meter: &'a Meter<S>,
+    out: W,
+}
+
+impl<'a, S: Screen, W: Write + Drop> Crier<'a, S, W> {
+    /// A teller whose faults go to this output, before whose bytes the meter's line is taken away.
+    pub(crate) fn new(teller: Teller, meter: &'a Meter<S>, out: W) -> Self
+        ensures teller { result.teller ≡ teller }
+        ensures out { result.out ≡ out }
+    {
+        Crier { teller, meter, out }
+    }
+
+    /// The teller.
+    pub(crate) fn into_teller(self) -> Teller
+        ensures { result ≡ self.entry.teller }
+    {
+        self.teller
+    }
+}
+
+impl<'a, S: Screen> Crier<'a, S, Aside<'a, S>> {
+    /// Prints faults alone, on the terminal, if there is one.
+    pub(crate) fn on_screen(alloc: Global, meter: &'a Meter<S>, symbolizer: Symbolizer) -> Self {
+        let teller = Teller::of_faults(alloc, "/init", meter.has_screen(), symbolizer);
+        Crier::new(teller, meter, Aside { meter })
+    }
+}
+
+impl<S: Screen, W: Write> Watch for Crier<'_, S, W> {
+    fn detail(&self) -> Detail {
+        self.teller.detail()
+    }
+
+    fn before<D: BlockDev, T: Translate>(&mut self, machine: &Machine<D, T>, event: Event) {
+        self.teller.before(machine, event);
+    }
+
+    fn after<D: BlockDev, T: Translate>(
+        &mut self,
+        machine: &Machine<D, T>,
+        event: Event,
+        ended: Result<(), Halt>,
+    ) {
+        self.teller.after(machine, event, ended);
+        let Some(fallen) = self.teller.take_news() else {
+            return;
+        };
+        self.meter.begin_line();
+        let _ = match self.teller.line(&fallen) {
+            Ok(line) => writeln!(self.out, "{line}"),
+            Err(_) => writeln!(self.out, "{}", Failure::NoMemory),
+        };
+    }
+
+    fn passed<D: BlockDev, T: Translate>(&mut self, machine: &Machine<D, T>, steps: u32) {
+        self.teller.passed(machine, steps);
+    }
+
+    fn end<D: BlockDev, T: Translate>(&mut self, machine: &Machine<D, T>) {
+        self.teller.end(machine);
     }
 }
 
@@ -143,10 +247,11 @@ pub fn looks_on(telling: &Telling<'_>) -> bool {
         || telling.json.is_some()
         || telling.registers.is_some()
         || telling.memory.is_some()
+        || telling.faults
 }
 
 /// How a run ended, as a report has it.
-pub fn outcome_of(end: End, play: Option<PlayEnd>) -> Outcome {
+pub(crate) fn outcome_of(end: End, play: Option<PlayEnd>) -> Outcome {
     let halt = match end {
         End::Running => None,
         End::Halted(halt) => Some(halt),
@@ -156,7 +261,7 @@ pub fn outcome_of(end: End, play: Option<PlayEnd>) -> Outcome {
 
 /// Writes what the teller has kept of a run that ended so, if there is one: on standard error, and as JSON in the file
 /// that is named.
-pub fn tell_kept<'a, H: Host, E: Write>(
+pub(crate) fn tell_kept<'a, H: Host, E: Write>(
     teller: Option<Teller>,
     outcome: Outcome,
     json: Option<&'a str>,
@@ -179,7 +284,7 @@ pub fn tell_kept<'a, H: Host, E: Write>(
 }
 
 /// The status to exit with. Where process 1's is wanted it is its low 8 bits, and 1 where it has not ended.
-pub fn status_of(telling: &Telling<'_>, end: End) -> u8 {
+pub(crate) fn status_of(telling: &Telling<'_>, end: End) -> u8 {
     match end {
         _ if !telling.status => end.status(),
         End::Halted(Halt::InitEnded(status)) => (status.cast_unsigned() % 0x100) as u8,

@@ -18,6 +18,7 @@ use Rattle.unixmodel.specs.Numbers.{low}
 use Rattle.unixmodel.specs.declared.process.Mode.{Mode}
 use Rattle.unixmodel.specs.declared.trap.Cause.{Cause}
 use Rattle.unixmodel.specs.Meaning.{Effect}
+use Rattle.run_laws.specs.Resting.{LeavesResting}
 use Rattle.run_laws.proofs.Others.{end-spares, reap-spares, Passes, Spares, by-test, leaves-then, passed-same}
 use Rattle.run_laws.proofs.Others.{same-passed, spares-all, spares-own, spares-passes, Yields, yields-limited}
 use Rattle.run_laws.proofs.Table.{goes-on-yields, row-yields}
@@ -250,3 +251,7 @@ unfolding next
 next-takes s Step = step-takes s (running s) refl
 next-takes s Tick = ticked-takes s (stopped s (running s)) _ (stopped-takes s (running s) refl)
 next-takes s (Key k) = takes-nothing refl refl
+
+-- what a process that rests keeps over an event
+pub event-rests : LeavesResting
+event-rests s i p e = (next-takes s e).left i p

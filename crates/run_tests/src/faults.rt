@@ -258,13 +258,17 @@ fn tells(alloc: Global, run: &mut Whole, wanted: Option<Wanted>) -> bool {
     }
 }
 
-// Whether a program's last word has this fault. The turn that picks the process comes first, and then all words but
-// that one.
-fn holds(alloc: Global, words: &[u32], wanted: Option<Wanted>) -> Option<bool> {
+// Whether a program has this fault after `steps` steps, the first of which is the turn that picks the process.
+fn holds_after(alloc: Global, words: &[u32], steps: usize, wanted: Option<Wanted>) -> Option<bool> {
     let mut run = booted(alloc, words)?;
-    let holds = run.steps(words.len()) && tells(alloc, &mut run, wanted);
+    let holds = run.steps(steps) && tells(alloc, &mut run, wanted);
     run.end();
     Some(holds)
+}
+
+// Whether a program's last word has this fault.
+fn holds(alloc: Global, words: &[u32], wanted: Option<Wanted>) -> Option<bool> {
+    holds_after(alloc, words, words.len(), wanted)
 }
 
 #[test]
@@ -272,4 +276,18 @@ fn faults_are_told_before_they_come(rt: HostRuntime) {
     for (name, words, wanted) in &ROWS {
         expect_row(&rt, name, holds(rt.alloc(), words, *wanted));
     }
+}
+
+// jalr zero, 6(zero), into the second half of two compressed instructions.
+const JUMP_TO_COMPRESSED: &[u32] = &[0x0060_0067, 0xe406_1141];
+
+#[test]
+fn a_jump_into_compressed_code_is_named(rt: HostRuntime) {
+    let wanted = (
+        Cause::InstructionMisaligned,
+        6,
+        "jump to 0x6 at pc 0x0: no multiple of 4 (compressed code? compile with -march=rv64im)",
+    );
+    let holds = holds_after(rt.alloc(), JUMP_TO_COMPRESSED, 1, Some(wanted));
+    expect_row(&rt, "jalr zero, 6(zero)", holds);
 }

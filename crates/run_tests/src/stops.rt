@@ -5,6 +5,7 @@ use machine::Halt;
 use reports::{Outcome, PlayEnd, Reporter, Told, Wanted};
 use std::alloc::Global;
 use sv39::Plain;
+use symbolizer::Symbolizer;
 use unixmodel::event::Event;
 
 const FRAMES: u32 = 64;
@@ -452,6 +453,7 @@ fn wanted_of(asked: &Asked) -> Wanted {
         json: false,
         registers: None,
         memory: None,
+        faults: false,
     };
     match asked {
         Asked::Report => wanted.report = true,
@@ -522,7 +524,8 @@ fn ticks(run: &mut Whole, reporter: &mut Reporter, times: u32) {
 
 // What is printed of a row's run.
 fn told_of(alloc: Global, run: &mut Whole, row: &Row, shown: Shown) -> Option<Told> {
-    let mut reporter = Reporter::new(alloc, b"/init", wanted_of(&row.asked));
+    let symbolizer = Symbolizer::new(alloc);
+    let mut reporter = Reporter::new(alloc, b"/init", wanted_of(&row.asked), symbolizer);
     for _round in 0..row.rounds {
         steps(run, &mut reporter, shown, row.steps);
         ticks(run, &mut reporter, row.ticks);

@@ -7,6 +7,7 @@ use live::Watch;
 use live::play::advance_seen;
 use std::alloc::Global;
 use sv39::Plain;
+use symbolizer::Symbolizer;
 use traces::{CallSet, Form, SinkFault, Sinks, Tracer, Trouble, Wanted};
 use unixmodel::event::Event;
 
@@ -333,7 +334,7 @@ static CASES: [Case; 8] = [
         missing: None,
     },
     Case {
-        name: "a part is told",
+        name: "a part is printed",
         files: &PIPELINE,
         part: Part::Calls,
         is_text_full: false,
@@ -398,7 +399,7 @@ static CASES: [Case; 8] = [
         missing: None,
     },
     Case {
-        name: "a full sink is told",
+        name: "a full sink is reported",
         files: &PIPELINE,
         part: Part::Whole,
         is_text_full: true,
@@ -438,7 +439,7 @@ fn traced(
 ) -> Option<(Pages, Result<(), Trouble>)> {
     let wanted = wanted_of(case, shown)?;
     let pages = Pages::new(alloc, case.is_text_full);
-    let mut tracer = Tracer::new(alloc, wanted, pages).ok()?;
+    let mut tracer = Tracer::new(alloc, wanted, Symbolizer::new(alloc), pages).ok()?;
     play(run, &mut tracer, shown);
     Some(tracer.finish())
 }

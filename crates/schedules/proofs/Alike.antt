@@ -1,142 +1,80 @@
 -- States that are equal except for their clocks go on alike.
-use Rattle.std.proofs.Common.{◌++◌, [], ap, arith, Bool, cond, Err, false, List, None, Ok, Option, refl, Some, subst}
+use Rattle.std.proofs.Common.{◌++◌, [], ap, arith, Err, false, List, None, Ok, Option, refl, Some, subst}
 use Rattle.std.proofs.Common.{sym, true, ℕ, ℤ, ◌%◌, ◌+◌, ◌-◌, ◌<◌, ◌^◌, ◌∙◌, ◌∷◌, ◌≡◌}
-use Rattle.std.specs.Prelude.{find, if◌then◌else◌, is_some, negsuc, option_map, ◌||◌}
-use Rattle.schedules.proofs.Going.{AfterBack, after-quiet, at-back, begun-back, call-back, changed-back, end-back}
-use Rattle.schedules.proofs.Going.{resume-back}
-use Rattle.schedules.proofs.Rows.{back-places, back-refl, slept-back, zombie-child-back}
-use Rattle.schedules.proofs.SetBack.{running-back, where-back}
+use Rattle.std.proofs.Math.ListN.{get_or-map}
+use Rattle.std.specs.Prelude.{if◌then◌else◌, option_map}
+use Rattle.schedules.proofs.Going.{SeenAfter}
+use Rattle.schedules.proofs.Turns.{key-in, runs-in, step-in, stopped-in}
+use Rattle.schedules.proofs.Views.{IsFair, IsPlain, View, mode_in, places_in, state_in}
 use Rattle.schedules.specs.Alike.{is_sleep, Alike, AreAlike, EventKeepsAlike, HasClock, NeverAsksTime, RunKeepsAlike}
-use Rattle.schedules.specs.Alike.{asks, asks_as, asks_at, asks_in, asks_time, is_uptime, mode_set_back, places_set_back}
+use Rattle.schedules.specs.Alike.{asks, asks_as, asks_at, asks_in, asks_time, mode_set_back, places_set_back}
 use Rattle.schedules.specs.Alike.{process_set_back, set_back, state_set_back, timeless}
-use Rattle.unixmodel.specs.Calls.{After, call, call_of, quiet}
-use Rattle.unixmodel.specs.Console.{Keyed, key}
+use Rattle.unixmodel.specs.Calls.{After}
+use Rattle.unixmodel.specs.Console.{key}
 use Rattle.unixmodel.specs.Meaning.{Effect}
-use Rattle.unixmodel.specs.Next.{acted, effect_of, execute, execute_at, is_ecall, next, pick, picked, picked_in}
-use Rattle.unixmodel.specs.Next.{process_after, step, stopped, take_turn, tick, typed}
-use Rattle.unixmodel.specs.Numbers.{low}
-use Rattle.unixmodel.specs.Outcome.{end_process}
-use Rattle.unixmodel.specs.Process.{Process, arg, is_running, with_mode}
+use Rattle.unixmodel.specs.Next.{effect_of, next, step, stopped, tick}
+use Rattle.unixmodel.specs.Process.{Process}
 use Rattle.unixmodel.specs.Run.{UnlessHalted, after_bytes, followed_by, run}
-use Rattle.unixmodel.specs.State.{State, holds, process_at, running}
-use Rattle.unixmodel.specs.Turn.{can_go_on, is_ready, is_ready_in, ready, round_from, turn}
+use Rattle.unixmodel.specs.State.{State, process_at, running}
 use Rattle.unixmodel.specs.declared.call.Call.{Call}
-use Rattle.unixmodel.specs.declared.call.Call.TheVariants.{Read, Sleep, Wait, Write}
+use Rattle.unixmodel.specs.declared.call.Call.TheVariants.{Sleep}
 use Rattle.unixmodel.specs.declared.event.Event.{Event}
 use Rattle.unixmodel.specs.declared.event.Event.TheVariants.{Key, Step, Tick}
 use Rattle.unixmodel.specs.declared.process.Mode.{Mode}
 use Rattle.unixmodel.specs.declared.process.Mode.TheVariants.{Ready, Running, Waiting, Zombie}
 use Rattle.unixmodel.specs.declared.process.Pending.{Pending}
 
--- ---- turns
+-- ---- the view of a state whose clock is set back
 
-go-on-back : (k : ℕ) (s : State) (p : Process) (w : Pending) (number : Call) → s.ticks ≡ k → w.number ≡ number
-    → can_go_on (state_set_back k s) (process_set_back k p) (set_back k w) number ≡ can_go_on s p w number
-unfolding state_set_back set_back
-go-on-back k s p w Wait time same = ap is_some (zombie-child-back k s p.pid)
-go-on-back k s p w Read time same = refl
-go-on-back k s p w Write time same = refl
-go-on-back k s p w Sleep time same = slept-back k s w time same
-go-on-back k s p w _ time same = refl
+abbrev back : ℕ → View
+back k = record {
+  now = k;
+  clock = 0;
+  since = λ number since. if is_sleep number then (2 ^ 32 - (k + (2 ^ 32 - since)) % 2 ^ 32) % 2 ^ 32 else 0;
+  held = λ i h. h;
+}
 
-ready-in-back : (k : ℕ) (s : State) (p : Process) (m : Mode) → s.ticks ≡ k
-    → is_ready_in (state_set_back k s) (process_set_back k p) (mode_set_back k m) ≡ is_ready_in s p m
+-- a call that begins now began at 0
+began : (number : Call) (k : ℕ) → k < 2 ^ 32
+    → (if is_sleep number then (2 ^ 32 - (k + (2 ^ 32 - k)) % 2 ^ 32) % 2 ^ 32 else 0) ≡ 0
+began Sleep k clock = omega (arith, clock)
+began _ k clock = refl
+
+back-fair : (k : ℕ) → k < 2 ^ 32 → IsFair (back k)
+back-fair k clock = record {
+  pages = λ i h. refl;
+  begins = λ number. began number k clock;
+  slept = λ since. omega arith;
+}
+
+back-plain : (k i : ℕ) → IsPlain (back k) i
+back-plain k i = record { is = λ h. refl }
+
+mode-back : (k : ℕ) (m : Mode) → mode_in (back k) m ≡ mode_set_back k m
 unfolding set_back
-ready-in-back k s p Running time = refl
-ready-in-back k s p Ready time = refl
-ready-in-back k s p (Waiting w) time = ap (λ b. b || p.killed) (go-on-back k s p w w.number time refl)
-ready-in-back k s p (Zombie status) time = refl
+mode-back k Running = refl
+mode-back k Ready = refl
+mode-back k (Waiting w) = refl
+mode-back k (Zombie status) = refl
 
-ready-back : (k : ℕ) (s : State) (i : ℕ) → s.ticks ≡ k → ready (state_set_back k s) i ≡ ready s i
-unfolding is_ready
-ready-back k s i time = ap (holds (is_ready (state_set_back k s))) (at-back k s i) ∙ held (process_at s i)
-  where
-    held : (o : Option Process)
-        → holds (is_ready (state_set_back k s)) (option_map (process_set_back k) o) ≡ holds (is_ready s) o
-    held None = refl
-    held (Some p) = ready-in-back k s p p.mode time
+places-back : (k : ℕ) (ps : List (Option Process)) → places_in (back k) ps ≡ places_set_back k ps
+places-back k [] = refl
+places-back k (None ∷ ps) = ap (λ qs. None ∷ qs) (places-back k ps)
+places-back k (Some p ∷ ps) =
+    ap (λ m. Some (record p { mode = m }) ∷ places_in (back k) ps) (mode-back k p.mode)
+    ∙ ap (λ qs. Some (process_set_back k p) ∷ qs) (places-back k ps)
 
-find-same : (test other : ℕ → Bool) → ((n : ℕ) → other n ≡ test n) → (ns : List ℕ) → find other ns ≡ find test ns
-find-same test other same [] = refl
-find-same test other same (n ∷ ns) = ap (λ b. cond b (Some n) (find other ns)) (same n)
-    ∙ ap (λ o. cond (test n) (Some n) o) (find-same test other same ns)
-
-turn-back : (k : ℕ) (s : State) → s.ticks ≡ k → turn (state_set_back k s) ≡ turn s
-unfolding turn state_set_back
-turn-back k s time =
-    find-same (ready s) (ready (state_set_back k s)) (λ i. ready-back k s i time) (round_from s.last)
+state-back : (k : ℕ) (s : State) → state_in (back k) s ≡ state_set_back k s
+unfolding state_in state_set_back
+state-back k s = ap (λ (ps : List (Option Process)). record s { places = ps; ticks = 0 }) (places-back k s.places)
 
 runs-back : (k : ℕ) (s : State) → running (state_set_back k s) ≡ running s
+runs-back k s = ap (λ t. running t) (sym (state-back k s)) ∙ runs-in (back k) s
+
+at-back : (k : ℕ) (s : State) (i : ℕ)
+    → process_at (state_set_back k s) i ≡ option_map (process_set_back k) (process_at s i)
 unfolding state_set_back
-runs-back k s = where-back k is_running (λ p. running-back k p.mode) s.places
-
--- ---- steps
-
-after-refl : (k : ℕ) (s : State) → s.ticks ≡ k → AfterBack k (quiet s) (quiet (state_set_back k s))
-after-refl k s time = after-quiet k s (state_set_back k s) (back-refl k s time)
-
-picked-in-back : (k : ℕ) (s : State) (i : ℕ) (p : Process) (m : Mode) → s.ticks ≡ k
-    → AfterBack k (picked_in s i p m) (picked_in (state_set_back k s) i (process_set_back k p) (mode_set_back k m))
-picked-in-back k s i p Running time = after-refl k s time
-picked-in-back k s i p Ready time = after-quiet k _ _ (begun-back k s i (with_mode Running p) time)
-picked-in-back k s i p (Waiting w) time = resume-back k s i p w time
-picked-in-back k s i p (Zombie status) time = after-refl k s time
-
-ended-after : (k : ℕ) (s : State) (i : ℕ) (p : Process) → s.ticks ≡ k
-    → AfterBack k (quiet (end_process s i p (negsuc 0)))
-    (quiet (end_process (state_set_back k s) i (process_set_back k p) (negsuc 0)))
-ended-after k s i p time = after-quiet k _ _ (end-back k s i p (negsuc 0) time)
-
-picked-back : (k : ℕ) (s : State) (i : ℕ) (p : Process) → s.ticks ≡ k
-    → AfterBack k (picked s i p) (picked (state_set_back k s) i (process_set_back k p))
-picked-back k s i p time = either p.killed
-  where
-    either : (b : Bool) → AfterBack k (if b then quiet (end_process s i p (negsuc 0)) else picked_in s i p p.mode)
-        (if b then quiet (end_process (state_set_back k s) i (process_set_back k p) (negsuc 0))
-        else picked_in (state_set_back k s) i (process_set_back k p) (mode_set_back k p.mode))
-    either true = ended-after k s i p time
-    either false = picked-in-back k s i p p.mode time
-
-pick-back : (k : ℕ) (s : State) (i : ℕ) (o : Option Process) → s.ticks ≡ k
-    → AfterBack k (pick s i o) (pick (state_set_back k s) i (option_map (process_set_back k) o))
-unfolding state_set_back
-pick-back k s i None time = after-refl k s time
-pick-back k s i (Some p) time = picked-back k (record s { last = i }) i p time
-
-take-back : (k : ℕ) (s : State) (o : Option ℕ) → s.ticks ≡ k
-    → AfterBack k (take_turn s o) (take_turn (state_set_back k s) o)
-take-back k s None time = after-refl k s time
-take-back k s (Some i) time =
-    subst (λ o. AfterBack k (pick s i (process_at s i)) (pick (state_set_back k s) i o)) (sym (at-back k s i))
-    (pick-back k s i (process_at s i) time)
-
-trapped-back : (k : ℕ) (s : State) (i : ℕ) (p : Process) (b : Bool) → s.ticks ≡ k → k < 2 ^ 32
-    → (if b then is_uptime (call_of (low (arg p 7))) else false) ≡ false
-    → AfterBack k (if b then call s i p else quiet (end_process s i p (negsuc 0)))
-    (if b then call (state_set_back k s) i (process_set_back k p)
-    else quiet (end_process (state_set_back k s) i (process_set_back k p) (negsuc 0)))
-trapped-back k s i p true time clock other = call-back k s i p time clock other
-trapped-back k s i p false time clock other = ended-after k s i p time
-
-acted-back : (k : ℕ) (s : State) (i : ℕ) (p : Process) (d : Effect) → s.ticks ≡ k → k < 2 ^ 32 → asks_as p d ≡ false
-    → AfterBack k (acted s i p d) (acted (state_set_back k s) i (process_set_back k p) d)
-acted-back k s i p (Ok d) time clock other = after-quiet k _ _ (begun-back k s i (process_after p d) time)
-acted-back k s i p (Err t) time clock other = trapped-back k s i p (is_ecall t.cause) time clock other
-
-execute-back : (k : ℕ) (s : State) (i : ℕ) (o : Option Process) → s.ticks ≡ k → k < 2 ^ 32 → asks_in o ≡ false
-    → AfterBack k (execute_at s i o) (execute_at (state_set_back k s) i (option_map (process_set_back k) o))
-unfolding execute effect_of asks
-execute-back k s i None time clock other = after-refl k s time
-execute-back k s i (Some p) time clock other = acted-back k s i p (effect_of p) time clock other
-
-step-back : (k : ℕ) (s : State) (o : Option ℕ) → s.ticks ≡ k → k < 2 ^ 32 → asks_at s o ≡ false
-    → AfterBack k (step s o) (step (state_set_back k s) o)
-step-back k s None time clock other =
-    subst (λ o. AfterBack k (take_turn s (turn s)) (take_turn (state_set_back k s) o)) (sym (turn-back k s time))
-    (take-back k s (turn s) time)
-step-back k s (Some i) time clock other =
-    subst (λ o. AfterBack k (execute_at s i (process_at s i)) (execute_at (state_set_back k s) i o))
-    (sym (at-back k s i)) (execute-back k s i (process_at s i) time clock other)
+at-back k s i = get_or-map (option_map (process_set_back k)) s.places i None
 
 -- ---- the clock goes on
 
@@ -168,8 +106,8 @@ places-again j k (Some p ∷ ps) =
 
 stopped-back : (k : ℕ) (s : State) (o : Option ℕ) → s.ticks ≡ k
     → stopped (state_set_back k s) o ≡ state_set_back k (stopped s o)
-stopped-back k s None time = refl
-stopped-back k s (Some i) time = (changed-back k s i (with_mode Ready) (with_mode Ready) (λ p. refl) time).is
+stopped-back k s o time =
+    ap (λ t. stopped t o) (sym (state-back k s)) ∙ stopped-in (back k) s o time ∙ state-back k (stopped s o)
 
 ticked : (k : ℕ) (s : State) → s.ticks ≡ k → timeless (tick s) ≡ timeless (tick (state_set_back k s))
 unfolding state_set_back
@@ -194,29 +132,39 @@ record Lands (e : Event) (a b : After) : Type 0 where
   state : timeless a.state ≡ set_anew e b.state
   clock : HasClock a.state
 
-lands-back : (e : Event) (k : ℕ) (a b : After) → k < 2 ^ 32 → ((s : State) → set_anew e s ≡ s) → AfterBack k a b
+lands-back : (e : Event) (k : ℕ) (a b : After) → k < 2 ^ 32 → ((s : State) → set_anew e s ≡ s) → SeenAfter (back k) a b
     → Lands e a b
-lands-back e k a b clock stays back = record {
-  bytes = back.bytes;
-  state = ap (λ n. state_set_back n a.state) back.state.time ∙ sym back.state.is ∙ sym (stays b.state);
-  clock = subst (λ n. n < 2 ^ 32) (sym back.state.time) clock;
+lands-back e k a b clock stays seen = record {
+  bytes = seen.bytes;
+  state = ap (λ n. state_set_back n a.state) seen.state.time ∙ sym (state-back k a.state) ∙ sym seen.state.is
+      ∙ sym (stays b.state);
+  clock = subst (λ n. n < 2 ^ 32) (sym seen.state.time) clock;
 }
 
-key-back : (s : State) (k : Keyed) → AfterBack s.ticks (typed s k) (typed (timeless s) k)
-unfolding state_set_back
-key-back s k = record {
+-- the step of a process that doesn't ask for the time
+step-back : (k : ℕ) (s : State) → s.ticks ≡ k → k < 2 ^ 32 → asks_at s (running s) ≡ false
+    → SeenAfter (back k) (step s (running s)) (step (state_in (back k) s) (running (state_in (back k) s)))
+step-back k s time clock other =
+    subst (λ o. SeenAfter (back k) (step s (running s)) (step (state_in (back k) s) o)) (sym (runs-in (back k) s))
+    (step-in (back k) s (running s) (back-fair k clock) time (λ i acts. back-plain k i)
+    (record { free = λ i free. back-plain k i })
+    (λ asked. absurd (let both : false ≡ true = sym other ∙ asked in cc)))
+
+lands-seen : (s : State) (e : Event) → HasClock s → asks_time s e ≡ false
+    → Lands e (next s e) (next (state_in (back s.ticks) s) e)
+unfolding next asks_time state_in
+lands-seen s Step clock other = lands-back Step s.ticks _ _ clock (λ s. refl) (step-back s.ticks s refl clock other)
+lands-seen s Tick clock other = record {
   bytes = refl;
-  state = back-places s.ticks s _ _ s.files s.opens s.pipes k.console s.next_pid s.last s.halted refl refl;
+  state = ticked s.ticks s refl ∙ sym (ap (λ t. timeless (tick t)) (state-back s.ticks s));
+  clock = omega arith;
 }
+lands-seen s (Key k) clock other =
+    lands-back (Key k) s.ticks _ _ clock (λ s. refl) (key-in (back s.ticks) s (key s.console k) refl)
 
 lands : (s : State) (e : Event) → HasClock s → asks_time s e ≡ false → Lands e (next s e) (next (timeless s) e)
-unfolding next asks_time state_set_back
-lands s Step clock other = lands-back Step s.ticks _ _ clock (λ s. refl)
-    (subst (λ o. AfterBack s.ticks (step s (running s)) (step (timeless s) o)) (sym (runs-back s.ticks s))
-    (step-back s.ticks s (running s) refl clock other))
-lands s Tick clock other =
-    record { bytes = refl; state = ticked s.ticks s refl; clock = omega arith }
-lands s (Key k) clock other = lands-back (Key k) s.ticks _ _ clock (λ s. refl) (key-back s (key s.console k))
+lands s e clock other =
+    subst (λ t. Lands e (next s e) (next t e)) (state-back s.ticks s) (lands-seen s e clock other)
 
 -- ---- who asks for the time
 

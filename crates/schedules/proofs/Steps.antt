@@ -83,7 +83,7 @@ position-set p xs i y d same =
     ap (λ n. cond (nat_lt n (length (set xs i y))) (Some n) None) (position_or_len-set p xs i y d same)
     ∙ ap (λ n. cond (nat_lt (position_or_len p xs) n) (Some (position_or_len p xs)) None) (length-set xs i y)
 
-running-stays : (s : State) (i : ℕ) → running (change_process s i computed) ≡ running s
+pub running-stays : (s : State) (i : ℕ) → running (change_process s i computed) ≡ running s
 running-stays s i = position-set (holds is_running) s.places i (option_map computed (slot s.places i)) None
     (runs-still (slot s.places i))
 

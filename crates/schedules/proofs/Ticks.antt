@@ -45,7 +45,7 @@ places-awake k j (Some p ∷ ps) awake =
 
 -- ---- nobody runs
 
-idle-tick : (s : State) → running s ≡ None → tick s ≡ record s { ticks = (s.ticks + 1) % 2 ^ 32 }
+pub idle-tick : (s : State) → running s ≡ None → tick s ≡ record s { ticks = (s.ticks + 1) % 2 ^ 32 }
 idle-tick s none = ap (λ o. record (stopped s o) { ticks = (s.ticks + 1) % 2 ^ 32 }) none
 
 -- a state whose clock goes on by one tick, while none sleeps
@@ -68,7 +68,7 @@ idle-tick-alike s clock none awake =
 -- ---- the process that ran is picked again
 
 -- a slot that is written and written back
-written-at : (ps : List (Option Process)) (i : ℕ) (p q : Process) → slot ps i ≡ Some p
+pub written-at : (ps : List (Option Process)) (i : ℕ) (p q : Process) → slot ps i ≡ Some p
     → slot (set ps i (Some q)) i ≡ Some q
 written-at [] i p q at = absurd cc
 written-at (o ∷ ps) zero p q at = refl
@@ -110,13 +110,13 @@ quiet-end t None = refl
 quiet-end t (Some status) = refl
 
 -- the state after a tick that ends the turn of process p in slot i
-abbrev interrupted : State → ℕ → Process → State
+abbrev pub interrupted : State → ℕ → Process → State
 interrupted s i p = record s {
   places = set s.places i (Some (with_mode Ready p));
   ticks = (s.ticks + 1) % 2 ^ 32;
 }
 
-tick-interrupts : (s : State) (i : ℕ) (p : Process) → running s ≡ Some i → process_at s i ≡ Some p
+pub tick-interrupts : (s : State) (i : ℕ) (p : Process) → running s ≡ Some i → process_at s i ≡ Some p
     → tick s ≡ interrupted s i p
 tick-interrupts s i p runs at =
     ap (λ o. record (stopped s o) { ticks = (s.ticks + 1) % 2 ^ 32 }) runs

@@ -5,6 +5,7 @@
 mod copies;
 mod giving;
 mod moving;
+mod outputs;
 mod printed;
 #[cfg(test)]
 mod tests;

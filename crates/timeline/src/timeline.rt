@@ -178,7 +178,7 @@ impl Timeline {
     }
 
     /// Goes to a time. False where the host has no memory: then nothing changed.
-    pub(crate) fn seek(&mut self, to: u64) -> bool
+    pub fn seek(&mut self, to: u64) -> bool
         requires { to ≤ length self.old.events }
         ensures ok { result ≡ true → self.new ≡ record self.old { at = to } }
         ensures err { result ≡ false → self.new ≡ self.old }

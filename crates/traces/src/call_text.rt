@@ -15,12 +15,12 @@ const MOST_PATH: usize = 127;
 const MOST_ARGUMENTS: u64 = 32;
 
 /// An argument as the kernel takes it: its low 32 bits, with their sign.
-pub fn int(argument: u64) -> i32 {
+pub(crate) fn int(argument: u64) -> i32 {
     ((argument % 0x1_0000_0000) as u32).cast_signed()
 }
 
 /// A device's number: the low 16 bits, with their sign.
-pub fn short(argument: u64) -> i16 {
+pub(crate) fn short(argument: u64) -> i16 {
     ((argument % 0x1_0000) as u16).cast_signed()
 }
 
@@ -182,7 +182,7 @@ fn write_buffer<D: BlockDev, T: Translate>(
 }
 
 /// The status that a call of wait filled in.
-pub fn status_of<D: BlockDev, T: Translate>(
+pub(crate) fn status_of<D: BlockDev, T: Translate>(
     machine: &Machine<D, T>,
     asked: &Asked,
     answer: Option<i64>,
@@ -215,7 +215,7 @@ fn write_status<D: BlockDev, T: Translate>(
 }
 
 /// The descriptors that a call of pipe filled in.
-pub fn ends_of<D: BlockDev, T: Translate>(
+pub(crate) fn ends_of<D: BlockDev, T: Translate>(
     machine: &Machine<D, T>,
     asked: &Asked,
     answer: Option<i64>,
@@ -317,7 +317,7 @@ fn write_stat(out: &mut String, asked: &Asked) -> Result<(), AllocError> {
 }
 
 /// How many bytes a call of read filled in, where that is known.
-pub fn count_read(answer: Option<i64>) -> Option<u64> {
+pub(crate) fn count_read(answer: Option<i64>) -> Option<u64> {
     match answer {
         Some(count) if count >= 0 => Some(count.cast_unsigned()),
         _ => None,
@@ -325,7 +325,7 @@ pub fn count_read(answer: Option<i64>) -> Option<u64> {
 }
 
 /// How many bytes a call of write takes; `None` where its count is below 0.
-pub fn count_written(asked: &Asked) -> Option<u64> {
+pub(crate) fn count_written(asked: &Asked) -> Option<u64> {
     let [_, _, count, ..] = asked.arguments;
     let count = int(count);
     if count < 0 {
@@ -336,7 +336,7 @@ pub fn count_written(asked: &Asked) -> Option<u64> {
 }
 
 /// Writes the arguments of a call; what it fills in is written where its answer is known.
-pub fn describe<D: BlockDev, T: Translate>(
+pub(crate) fn describe<D: BlockDev, T: Translate>(
     text: &mut CallText,
     machine: &Machine<D, T>,
     asked: &Asked,

@@ -57,7 +57,7 @@ fn detail_of(cause: Cause, why: Why) -> Detail {
 }
 
 /// A fault in words, where it is known.
-pub fn fault_text(fault: Option<Fault>) -> FaultText {
+pub(crate) fn fault_text(fault: Option<Fault>) -> FaultText {
     match fault {
         Some(Fault { trap, why, .. }) => FaultText::Known {
             access: access_of(trap.cause),

@@ -59,7 +59,7 @@ fn argument_of(shape: Shape, value: u64) -> Option<Argument> {
 }
 
 /// The arguments of a call.
-pub fn arguments_of(asked: &Asked) -> ArrayVec<Argument, MOST_ARGUMENTS> {
+pub(crate) fn arguments_of(asked: &Asked) -> ArrayVec<Argument, MOST_ARGUMENTS> {
     let shapes = shapes_of(asked.call());
     let mut arguments = ArrayVec::new();
     for index in 0..MOST_ARGUMENTS {
@@ -198,7 +198,7 @@ impl<D: BlockDev, T: Translate> Reader<'_, D, T> {
 }
 
 /// What a call was handed in memory, or filled in if its answer is known; texts have `most` bytes at most.
-pub fn handed_of<D: BlockDev, T: Translate>(
+pub(crate) fn handed_of<D: BlockDev, T: Translate>(
     alloc: Global,
     machine: &Machine<D, T>,
     asked: &Asked,

@@ -48,7 +48,7 @@ pub struct Lane {
 }
 
 /// What a state says of a process that waits in no call that is known.
-pub fn doing_in(state: ProcessState, done: u64) -> Doing {
+pub(crate) fn doing_in(state: ProcessState, done: u64) -> Doing {
     match state {
         ProcessState::Running => Doing::Runs,
         ProcessState::Ready => Doing::Rests,
@@ -59,7 +59,7 @@ pub fn doing_in(state: ProcessState, done: u64) -> Doing {
 
 impl Lane {
     /// A process that nothing is known of but its pid.
-    pub fn new(pid: u32, doing: Doing) -> Lane {
+    pub(crate) fn new(pid: u32, doing: Doing) -> Lane {
         Lane {
             pid,
             name: ArrayVec::new(),
@@ -73,12 +73,12 @@ impl Lane {
     }
 
     /// Whether the process has ended.
-    pub fn has_ended(&self) -> bool {
+    pub(crate) fn has_ended(&self) -> bool {
         matches!(self.doing, Doing::Ended)
     }
 
     /// Calls it by this name, or by its first bytes.
-    pub fn rename(&mut self, name: &[u8]) {
+    pub(crate) fn rename(&mut self, name: &[u8]) {
         self.name.clear();
         for byte in name {
             if self.name.try_push(*byte).is_err() {
@@ -89,6 +89,6 @@ impl Lane {
 }
 
 /// The index of a process among others; `None` where it isn't there.
-pub fn place_of(lanes: &[Lane], pid: u32) -> Option<usize> {
+pub(crate) fn place_of(lanes: &[Lane], pid: u32) -> Option<usize> {
     lanes.iter().position(|lane| lane.pid == pid)
 }

@@ -8,7 +8,7 @@ use sv39::Translate;
 pub const PAGE_SIZE: u64 = 4096;
 
 /// The byte at an address; `None` where the process may not read it.
-pub fn byte<D: BlockDev, T: Translate>(
+pub(crate) fn byte<D: BlockDev, T: Translate>(
     machine: &Machine<D, T>,
     pid: u32,
     address: u64,
@@ -35,7 +35,7 @@ pub fn read<D: BlockDev, T: Translate>(
 }
 
 /// The number of 4 bytes at an address, from the least one on; `None` where the process may not read one of them.
-pub fn word<D: BlockDev, T: Translate>(
+pub(crate) fn word<D: BlockDev, T: Translate>(
     machine: &Machine<D, T>,
     pid: u32,
     address: u64,
@@ -46,7 +46,7 @@ pub fn word<D: BlockDev, T: Translate>(
 }
 
 /// The number of 8 bytes at an address, from the least one on; `None` where the process may not read one of them.
-pub fn double<D: BlockDev, T: Translate>(
+pub(crate) fn double<D: BlockDev, T: Translate>(
     machine: &Machine<D, T>,
     pid: u32,
     address: u64,

@@ -24,7 +24,7 @@ pub struct PipeTrack {
 
 impl PipeTrack {
     /// An empty pipe.
-    pub fn new() -> PipeTrack {
+    pub(crate) fn new() -> PipeTrack {
         PipeTrack {
             level: 0,
             puts: ArrayVec::new(),

@@ -19,6 +19,7 @@ use live::{Detail, Watch};
 use machine::{Call, Halt, Machine, ProcessState, Seen};
 use std::alloc::{AllocError, Global};
 use sv39::Translate;
+use symbolizer::Symbolizer;
 use tracetext::lines::Outcome;
 use tracetext::{Asked, CallText, Form, Pen, Row, Sinks, Trouble, Wanted};
 use unixmodel::event::Event;
@@ -55,6 +56,7 @@ pub struct Tracer<S> {
     alloc: Global,
     pen: Pen<S>,
     wanted: Wanted,
+    symbolizer: Symbolizer,
     // How many events have passed, which is the time in spans.
     at: u64,
     is_begun: bool,
@@ -115,8 +117,13 @@ fn empty_tables(alloc: Global) -> Result<(Vec<Lane>, Vec<PipeTrack>), AllocError
 }
 
 impl<S: Sinks + Drop> Tracer<S> {
-    /// A tracer that writes what is wanted to these sinks.
-    pub fn new(alloc: Global, wanted: Wanted, sinks: S) -> Result<Self, AllocError> {
+    /// A tracer that writes what is wanted to these sinks. Addresses have the names of a symbolizer.
+    pub fn new(
+        alloc: Global,
+        wanted: Wanted,
+        symbolizer: Symbolizer,
+        sinks: S,
+    ) -> Result<Self, AllocError> {
         let (lanes, pipes) = empty_tables(alloc)?;
         let mut pen = Pen::new(alloc, sinks);
         pen.set(Form::Text, wanted.text);
@@ -127,6 +134,7 @@ impl<S: Sinks + Drop> Tracer<S> {
             alloc,
             pen,
             wanted,
+            symbolizer,
             at: 0,
             is_begun: false,
             is_over: false,
@@ -144,7 +152,7 @@ impl<S: Sinks + Drop> Tracer<S> {
     }
 
     /// Why the trace isn't whole, if it isn't.
-    pub fn failed(&self) -> Option<Trouble> {
+    pub(crate) fn failed(&self) -> Option<Trouble> {
         self.pen.trouble()
     }
 

@@ -36,12 +36,12 @@ fn entry(number: u32) -> Option<(Call, &'static str)> {
 }
 
 /// The number of a call.
-pub fn number_of(call: Call) -> u32 {
+pub(crate) fn number_of(call: Call) -> u32 {
     call as u32 + 1
 }
 
 /// The call of a number; `None` where no call has it.
-pub fn call_of(number: u32) -> Option<Call> {
+pub(crate) fn call_of(number: u32) -> Option<Call> {
     let (call, _) = entry(number)?;
     Some(call)
 }

@@ -30,11 +30,18 @@ pub enum Outcome {
 #[derive(Clone, Copy)]
 pub enum Says<'a> {
     /// What becomes of a call.
-    Call { call: Told<'a>, outcome: Outcome },
+    Call {
+        call: Told<'a>,
+        outcome: Outcome,
+    },
     /// The process ended with this status.
     Ended(i32),
-    /// The process faulted, at this pc.
-    Fault { fault: FaultText, pc: u64 },
+    /// The process faulted, at this pc, whose name is known or not.
+    Fault {
+        fault: FaultText,
+        pc: u64,
+        name: Option<&'a str>,
+    },
     /// The process was killed by the one with this pid, if that is known.
     Killed(Option<u32>),
     /// The process got the hart.
@@ -174,9 +181,17 @@ fn write_outcome<W: fmt::Write>(
     }
 }
 
-// A fault, and the pc of its instruction.
-fn write_fault<W: fmt::Write>(f: &mut fmt::Formatter<W>, fault: FaultText, pc: u64) -> fmt::Result {
-    write!(f, "--- {fault}, pc {pc:#x} ---")
+// A fault, the pc of its instruction, and the pc's name, if it is known.
+fn write_fault<W: fmt::Write>(
+    f: &mut fmt::Formatter<W>,
+    fault: FaultText,
+    pc: u64,
+    name: Option<&str>,
+) -> fmt::Result {
+    match name {
+        Some(name) => write!(f, "--- {fault}, pc {pc:#x} in {name} ---"),
+        None => write!(f, "--- {fault}, pc {pc:#x} ---"),
+    }
 }
 
 // Who killed a process, if that is known.
@@ -192,7 +207,7 @@ impl fmt::Display for Says<'_> {
         match *self {
             Says::Call { call, outcome } => write_outcome(f, call, outcome),
             Says::Ended(status) => write!(f, "+++ ended with {status} +++"),
-            Says::Fault { fault, pc } => write_fault(f, fault, pc),
+            Says::Fault { fault, pc, name } => write_fault(f, fault, pc, name),
             Says::Killed(killer) => write_killed(f, killer),
             Says::Turn => f.write_str("--- turn ---"),
             Says::Tick => f.write_str("--- tick ---"),

@@ -143,7 +143,7 @@ fn play_remembering(
         "where translations are remembered",
     )?;
     play_over(alloc, session, image, Noting::new(alloc, 0), played).context(
-        "where the oldest translation is answered",
+        "where the oldest translation is found",
     )?;
     play_over(alloc, session, image, Noting::new(alloc, PAGES), played).context(
         "where all pages are noted ahead",

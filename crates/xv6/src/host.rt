@@ -82,7 +82,7 @@ pub struct RealFiles<'a, R> {
 
 impl<'a, R: Files<File = File> + Clock + Input + Eprint + AllocGlobal> RealFiles<'a, R> {
     /// The files of this system, whose standard streams are these terminals.
-    pub fn new(rt: &'a R, terminals: Terminals) -> RealFiles<'a, R> {
+    pub(crate) fn new(rt: &'a R, terminals: Terminals) -> RealFiles<'a, R> {
         RealFiles {
             rt,
             terminals,

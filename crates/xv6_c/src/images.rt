@@ -1,6 +1,7 @@
-//! Images and assembly texts in memory, for C: no machine is needed. Each returns 0, or the number of what is wrong.
+//! Images, programs and assembly texts in memory, for C: no machine is needed.
+//! Each returns 0, or the number of what is wrong.
 ghost use Rattle.c_images.specs.Images.{AsTells, AsmTells, CheckTells, GetTells, ListTells, MakeTells, MigrateTells};
-ghost use Rattle.c_images.specs.Images.{PutTells};
+ghost use Rattle.c_images.specs.Images.{LocationTells, PutTells};
 
 use c_images::{AssembledTold, EntryTold, ExpandedTold, SummaryTold};
 use std::alloc::Global;
@@ -74,6 +75,21 @@ pub extern "C" fn xv6_raw_migrate(alloc: Global, image: &mut [u8]) -> u32
     ensures { MigrateTells image.old image.new result }
 {
     c_images::migrate(alloc, image)
+}
+
+/// Copies what a program's file says of an address, as `sum+0x10 (oops.c:4)`: as many bytes as there is room for, and
+/// puts how many it has, none where the file says nothing of it. 0, or 4 where the host has no memory.
+#[unsafe(no_mangle)]
+pub extern "C" fn xv6_raw_locate(
+    alloc: Global,
+    file: &[u8],
+    address: u64,
+    out: &mut [u8],
+    count: &mut usize,
+) -> u32
+    ensures { LocationTells out.old out.new count.old count.new result }
+{
+    c_images::locate(alloc, file, address, out, count)
 }
 
 /// Assembles a text: copies as many bytes of the program's file as there is room for, and puts how many it has, or the

@@ -47,9 +47,9 @@ use walks::WalkTold;
 /// The version of these functions: the major number times 1000, and the minor one.
 #[unsafe(no_mangle)]
 pub extern "C" fn xv6_raw_version() -> u32
-    ensures { result ≡ 1003 }
+    ensures { result ≡ 1004 }
 {
-    1003
+    1004
 }
 
 // Puts the handle of a session: 0, or 4 where there is no memory for it.
@@ -294,6 +294,24 @@ pub extern "C" fn xv6_raw_free_frames(machine: &mut Sealed) -> u32
     ensures same { machine.new.session ≡ machine.old.session }
 {
     get_mut(machine).machine().free_frames()
+}
+
+/// How many timer ticks the machine has had since it started, modulo 2^32.
+#[unsafe(no_mangle)]
+pub extern "C" fn xv6_raw_ticks(machine: &mut Sealed) -> u32
+    ensures count { result ≡ machine.old.session.machine.state.ticks }
+    ensures same { machine.new.session ≡ machine.old.session }
+{
+    get_mut(machine).machine().ticks()
+}
+
+/// The pid that the next fork gives, if it gives one.
+#[unsafe(no_mangle)]
+pub extern "C" fn xv6_raw_coming_pid(machine: &mut Sealed) -> u32
+    ensures pid { result ≡ machine.old.session.machine.state.next_pid }
+    ensures same { machine.new.session ≡ machine.old.session }
+{
+    get_mut(machine).machine().coming_pid()
 }
 
 /// Puts the digest of the whole state.

@@ -246,7 +246,7 @@ static SUBJECTS: [(&str, &[Image]); 5] = [
     ("the inodes of directories", INODES),
     ("what is wrong with paths", PATHS),
     ("lines that cannot be read", LINES),
-    ("files behind a fault", BEHIND_A_FAULT),
+    ("files after a fault", BEHIND_A_FAULT),
 ];
 
 // What the check says of an image, or why none is made.

@@ -125,6 +125,7 @@ fn live() -> Job<'static> {
         script: None,
         save: None,
         terminal: true,
+        symbols: None,
         image: "image",
     })
 }

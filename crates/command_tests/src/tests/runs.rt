@@ -420,7 +420,7 @@ static ENDINGS: [Done; 10] = [
     ),
     // Frames are counted first, and an image that is refused may be reported before an access fails.
     (
-        "the frames are told before the disk fails",
+        "the frames are reported before the disk fails",
         usize::MAX,
         Doing {
             fail: 1,
@@ -453,7 +453,7 @@ static ENDINGS: [Done; 10] = [
         1,
     ),
     (
-        "a short image is told before the disk fails",
+        "a short image is reported before the disk fails",
         31744,
         Doing {
             fail: 30,

@@ -4,9 +4,10 @@ use crate::tests::openings::{get, with_letters};
 use crate::tests::runs::put_text;
 use crate::tests::tracing::ALL;
 use crate::tests::{
-    Name, Program, Wanted, bytes_of, expect, expect_text, expect_that, files_of, flat, text_of,
+    Name, Program, UNTOLD, Wanted, bytes_of, expect, expect_text, expect_that, files_of, flat,
+    flat_told, text_of,
 };
-use commands::{Flat, Host, Job, Telling, explain, explain_words};
+use commands::{Host, Job, Telling, explain, explain_words};
 use std::num::NonZeroU64;
 use std::process::Abort;
 
@@ -24,11 +25,15 @@ struct Row {
     registers: u64,
     memory: u64,
     status: bool,
+    faults: bool,
     wanted: Wanted<'static>,
     parts: &'static [&'static str],
 }
 
-static ROWS: [Row; 3] = [
+// lui a0, 0x1; sb zero, 0(a0): the page below the stack.
+const GUARD: &[u32] = &[0x0000_1537, 0x0005_0023];
+
+static ROWS: [Row; 4] = [
     Row {
         name: "a program that ended is reported",
         program: Program::Hello,
@@ -38,6 +43,7 @@ static ROWS: [Row; 3] = [
         registers: 0,
         memory: 0,
         status: false,
+        faults: false,
         wanted: (
             "hi\n",
             "report: 9 steps, 0 ticks, 0 keys\n\
@@ -50,7 +56,7 @@ static ROWS: [Row; 3] = [
         parts: &[],
     },
     Row {
-        name: "an endless loop is told",
+        name: "an endless loop is reported",
         program: Program::Words(LOOP),
         script: "step 5",
         report: true,
@@ -58,6 +64,7 @@ static ROWS: [Row; 3] = [
         registers: 0,
         memory: 0,
         status: true,
+        faults: false,
         wanted: (
             "",
             "report: 5 steps, 0 ticks, 0 keys\n\
@@ -84,6 +91,7 @@ static ROWS: [Row; 3] = [
         registers: 7,
         memory: 1,
         status: false,
+        faults: false,
         wanted: (
             "",
             "pid 7: no process\n\
@@ -96,23 +104,39 @@ static ROWS: [Row; 3] = [
         ),
         parts: &[],
     },
+    Row {
+        name: "a fault is printed as it comes",
+        program: Program::Words(GUARD),
+        script: "step 3",
+        report: false,
+        json: None,
+        registers: 0,
+        memory: 0,
+        status: false,
+        faults: true,
+        wanted: (
+            "",
+            "pid 1 (program): store to 0x1000 at pc 0x4: the page below the stack may not be used (stack overflow?)\n\
+            halt 1 InitEnded -1\n",
+            0,
+        ),
+        parts: &[],
+    },
 ];
 
 fn job_of(row: &Row) -> Job<'static> {
-    Job::Flat(Flat {
-        frames: 256,
-        tlb: false,
-        telling: Telling {
+    flat_told(
+        256,
+        Telling {
             report: row.report,
             json: row.json,
             registers: NonZeroU64::new(row.registers),
             memory: NonZeroU64::new(row.memory),
+            faults: row.faults,
             status: row.status,
-            progress: false,
+            ..UNTOLD
         },
-        file: "program",
-        script: "script",
-    })
+    )
 }
 
 fn expect_row(rt: &(impl Abort + AllocGlobal), row: &Row) {

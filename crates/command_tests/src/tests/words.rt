@@ -269,7 +269,7 @@ fn expect_run_jobs(rt: &(impl Abort + AllocGlobal)) {
     );
     expect_job(
         rt,
-        "xv6 run --report --json c --status --progress --explain a b",
+        "xv6 run --report --json c --status --progress --faults --symbols d --explain a b",
         &Job::Run(Run {
             telling: Telling {
                 report: true,
@@ -278,6 +278,8 @@ fn expect_run_jobs(rt: &(impl Abort + AllocGlobal)) {
                 memory: None,
                 status: true,
                 progress: true,
+                faults: true,
+                symbols: Some("d"),
             },
             ..PLAIN
         }),
@@ -402,18 +404,20 @@ fn expect_live_jobs(rt: &(impl Abort + AllocGlobal)) {
             script: None,
             save: None,
             terminal: false,
+            symbols: None,
             image: "b",
         }),
     );
     expect_job(
         rt,
-        "xv6 live --record=c --terminal --frames=64 --quantum 2 b --save=d",
+        "xv6 live --record=c --terminal --frames=64 --quantum 2 --symbols e b --save=d",
         &Job::Live(Live {
             frames: 64,
             quantum: NonZeroU64::new(2),
             script: Some("c"),
             save: Some("d"),
             terminal: true,
+            symbols: Some("e"),
             image: "b",
         }),
     );

@@ -1,18 +1,19 @@
 //! Runs that show what each process does.
 
 use blockdev::MemDisk;
-use commandline::{Run, Trace};
+use commandline::{Run, Telling, Trace};
 use hosts::{End, Failure, Front, Host, Screen, append, disk_of, tell, write};
 use live::Watch;
 use playtext::{Play, parse};
 use run_commands::{
-    Both, Gauge, Meter, Teller, keep, pid_of, plays, read_run, run_watched_over, script_of,
-    scripted,
+    Both, Gauge, Meter, Teller, keep, looks_on, pid_of, plays, read_run, run_watched_over,
+    script_of, scripted, symbolizer_of,
 };
 use scripts::Command;
 use std::alloc::Global;
 use std::io::Write;
 use std::num::NonZeroU64;
+use symbolizer::Symbolizer;
 use traces::{CallSet, Form, SinkFault, Sinks, Tracer, Trouble, Wanted};
 
 /// The most bytes of a file that wait to be written.
@@ -266,13 +267,14 @@ fn run_traced<'a, Z: Source, T: Watch + Drop, S: Screen, W: Write>(
     disk: MemDisk,
     source: &Z,
     tracer: T,
+    teller: Teller,
     meter: &Meter<S>,
     stdout: &mut W,
 ) -> Result<(Finish, Option<MemDisk>, T, Teller), Failure<'a>> {
     let mut all = Both {
         first: tracer,
         second: Both {
-            first: Teller::new(alloc, "/init", &run.telling),
+            first: teller,
             second: Gauge { meter },
         },
     };
@@ -281,33 +283,18 @@ fn run_traced<'a, Z: Source, T: Watch + Drop, S: Screen, W: Write>(
     Ok((finish, disk, first, second.first))
 }
 
-// A run from a disk, to its end.
-fn trace_disk<'a, Z: Source, H: Host, S: Screen, W: Write, E: Write>(
+// The names for addresses in the report of a run, if there is to be one.
+fn names_told<'a, H: Host>(
     alloc: Global,
-    words: &Trace<'a>,
-    wanted: Wanted,
-    disk: MemDisk,
-    source: &Z,
+    telling: &Telling<'a>,
+    image: &Front,
     host: &mut H,
-    meter: &Meter<S>,
-    stdout: &mut W,
-    stderr: &mut E,
-) -> Result<Traced<'a>, Failure<'a>> {
-    let sheets = Sheets::new(alloc, words, host, stderr);
-    let Ok(tracer) = Tracer::new(alloc, wanted, sheets) else {
-        return Err(Failure::NoMemory);
-    };
-    let (finish, disk, tracer, teller) = run_traced(
-        alloc, words.run, disk, source, tracer, meter, stdout,
-    )?;
-    let (sheets, traced) = tracer.finish();
-    let written = whole(traced, sheets.finish());
-    let saved = keep(words.run.save, disk, host);
-    Ok(Traced {
-        finish,
-        written: written.and(saved),
-        teller,
-    })
+) -> Result<Symbolizer, Failure<'a>> {
+    if looks_on(telling) {
+        symbolizer_of(alloc, image, telling.symbols, host)
+    } else {
+        Ok(Symbolizer::new(alloc))
+    }
 }
 
 // A run from an image, to its end.
@@ -321,11 +308,27 @@ fn trace<'a, Z: Source, H: Host, S: Screen, W: Write, E: Write>(
     stdout: &mut W,
     stderr: &mut E,
 ) -> Result<Traced<'a>, Failure<'a>> {
+    let telling = &words.run.telling;
     let wanted = wanted_of(words)?;
+    let symbolizer = symbolizer_of(alloc, &image, telling.symbols, host)?;
+    let told = names_told(alloc, telling, &image, host)?;
     let disk = disk_of(image)?;
-    trace_disk(
-        alloc, words, wanted, disk, source, host, meter, stdout, stderr,
-    )
+    let sheets = Sheets::new(alloc, words, host, stderr);
+    let Ok(tracer) = Tracer::new(alloc, wanted, symbolizer, sheets) else {
+        return Err(Failure::NoMemory);
+    };
+    let teller = Teller::new(alloc, "/init", telling, told);
+    let (finish, disk, tracer, teller) = run_traced(
+        alloc, words.run, disk, source, tracer, teller, meter, stdout,
+    )?;
+    let (sheets, traced) = tracer.finish();
+    let written = whole(traced, sheets.finish());
+    let saved = keep(words.run.save, disk, host);
+    Ok(Traced {
+        finish,
+        written: written.and(saved),
+        teller,
+    })
 }
 
 // Prints how a run ended, and returns the status to exit with.

@@ -68,7 +68,7 @@ fn boot_of<'a>(job: &Job<'a>) -> Option<(&'a str, u32)> {
 }
 
 /// Why process 1 can't begin.
-pub fn of_init<H: Host>(
+pub(crate) fn of_init<H: Host>(
     alloc: Global,
     job: &Job<'_>,
     host: &mut H,
@@ -125,7 +125,7 @@ fn of_device(alloc: Global, job: &Job<'_>, path: &str) -> Result<Option<String>,
 }
 
 /// Which name was meant by a path that leads to nothing, or that it leads to a device.
-pub fn of_path<H: Host>(
+pub(crate) fn of_path<H: Host>(
     alloc: Global,
     job: &Job<'_>,
     host: &mut H,

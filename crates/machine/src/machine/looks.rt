@@ -25,6 +25,20 @@ impl<D: BlockDev, T: Translate> Machine<D, T> {
         self.kernel.next_pid(after)
     }
 
+    /// The pid that the next fork gives, if it gives one.
+    pub fn coming_pid(&self) -> u32
+        ensures { result ≡ self.now.state.next_pid }
+    {
+        self.kernel.table().coming_pid()
+    }
+
+    /// How many timer ticks the machine has had since it started, modulo 2^32: what `uptime` returns.
+    pub fn ticks(&self) -> u32
+        ensures { result ≡ self.now.state.ticks }
+    {
+        self.kernel.ticks()
+    }
+
     /// What the process with a pid holds; `None` where there is none.
     pub fn holdings(&self, pid: u32) -> Option<Holdings>
         ensures { result ≡ option_map holdings_of (shown_process self.now.state pid) }

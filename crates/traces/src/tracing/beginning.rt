@@ -27,7 +27,7 @@ fn pending_of<D: BlockDev, T: Translate>(machine: &Machine<D, T>, pid: u32) -> O
 }
 
 /// How many bytes the call that a process waits in has read or written so far.
-pub fn done_of<D: BlockDev, T: Translate>(machine: &Machine<D, T>, pid: u32) -> u64 {
+pub(crate) fn done_of<D: BlockDev, T: Translate>(machine: &Machine<D, T>, pid: u32) -> u64 {
     match pending_of(machine, pid) {
         Some(pending) => pending.done,
         None => 0,

@@ -4,7 +4,7 @@ use super::Tracer;
 use crate::handed::{arguments_of, handed_of};
 use crate::lanes::Lane;
 use blockdev::BlockDev;
-use causes::Fault;
+use causes::{Fault, Named};
 use jsonrows::{
     BeginRow, CallRow, EndRow, EndedRow, ExitRow, FaultRow, Handed, How, Kind, Latin, Printed,
     TurnRow, VERSION, WaitRow, WaitsRow, descriptor_rows, descriptors_of, line, waits_row,
@@ -160,6 +160,15 @@ impl<S: Sinks + Drop> Tracer<S> {
         put_line(&mut self.pen, line);
     }
 
+    // The line of a fault.
+    fn fault_line(&self, before: &Seen, fault: Fault) -> Result<String, AllocError> {
+        let program = program_of(self.lane(before.pid));
+        let name = self.name(before.pid, before.pc)?;
+        let named = Named { fault, name };
+        let row = FaultRow::new(self.number(), before.pid, program, named, &before.registers);
+        line(self.alloc, Kind::Fault, row)
+    }
+
     // Writes a fault of a process.
     pub(super) fn note_fault(&mut self, before: &Seen, fault: Option<Fault>) {
         if !self.notes(before.pid) {
@@ -168,9 +177,7 @@ impl<S: Sinks + Drop> Tracer<S> {
         let Some(fault) = fault else {
             return;
         };
-        let program = program_of(self.lane(before.pid));
-        let row = FaultRow::new(self.number(), before.pid, program, fault, &before.registers);
-        let line = line(self.alloc, Kind::Fault, row);
+        let line = self.fault_line(before, fault);
         put_line(&mut self.pen, line);
     }
 

@@ -1,7 +1,9 @@
 //! The text in strace's manner.
 
 use super::Tracer;
-use tracetext::lines::{Line, Outcome, Says, Told};
+use addresses::Name;
+use std::alloc::AllocError;
+use tracetext::lines::{FaultText, Line, Outcome, Says, Told};
 use tracetext::{Asked, Form, Sinks};
 
 impl<S: Sinks + Drop> Tracer<S> {
@@ -39,6 +41,36 @@ impl<S: Sinks + Drop> Tracer<S> {
         self.say_row();
         let at = self.stamp(self.at);
         self.pen.put(Form::Text, &Line { at, pid, says });
+    }
+
+    // The name of an address of a process's program, if it is known.
+    pub(super) fn name(&self, pid: u32, pc: u64) -> Result<Option<Name<'_>>, AllocError> {
+        match self.lane(pid) {
+            Some(lane) => self.symbolizer.at(lane.name.as_slice(), pc),
+            None => Ok(None),
+        }
+    }
+
+    // The same as a text.
+    fn name_text(&self, pid: u32, pc: u64) -> Result<Option<String>, AllocError> {
+        match self.name(pid, pc)? {
+            Some(name) => Ok(Some(format!(in self.alloc; "{name}")?)),
+            None => Ok(None),
+        }
+    }
+
+    // Writes a fault of a process, if it is shown.
+    pub(super) fn say_fault(&mut self, pid: u32, fault: FaultText, pc: u64) {
+        let name = match self.name_text(pid, pc) {
+            Ok(name) => name,
+            Err(_) => return self.pen.starve(),
+        };
+        let says = Says::Fault {
+            fault,
+            pc,
+            name: name.as_deref(),
+        };
+        self.say(pid, says);
     }
 
     // Holds back a call that returned at once, since equal ones may follow.

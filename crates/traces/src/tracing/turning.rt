@@ -282,7 +282,7 @@ impl<S: Sinks + Drop> Tracer<S> {
         let (pid, pc) = (before.pid, before.pc);
         let raised = fault_of(machine, pid);
         let fault = fault_text(raised);
-        self.say(pid, Says::Fault { fault, pc });
+        self.say_fault(pid, fault, pc);
         self.say(pid, Says::Ended(-1));
         self.note_fault(before, raised);
         self.note_exit(machine, pid, How::Fault, -1);

@@ -26,3 +26,8 @@ pub returns-in-InstructionPageFault : goal.returns-in-InstructionPageFault
 returns-in-InstructionPageFault g c =
     fault-shown (shown_process c.args.machine.now.state c.args.pid) c.in_ok-seen.seen c.in_ok-trap.trap
     c.in_ok-seen.ensures c.in_ok-trap.ensures
+
+pub returns-in-InstructionMisaligned : goal.returns-in-InstructionMisaligned
+returns-in-InstructionMisaligned g c =
+    fault-shown (shown_process c.args.machine.now.state c.args.pid) c.in_ok-seen.seen c.in_ok-trap.trap
+    c.in_ok-seen.ensures c.in_ok-trap.ensures

@@ -8,5 +8,6 @@ returns c = told (record {
   script = c.option_found-script.ensures;
   save = c.option_found-save.ensures;
   terminal = c.flag_found-terminal.ensures;
+  symbols = c.option_found-symbols.ensures;
   image = c.in-Some-word_found.ensures;
 })

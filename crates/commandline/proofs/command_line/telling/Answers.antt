@@ -8,4 +8,6 @@ returns c = record {
   memory = c.in-Ok-count_found.ensures;
   status = c.flag_found-status.ensures;
   progress = c.flag_found-progress.ensures;
+  faults = c.flag_found-faults.ensures;
+  symbols = c.option_found-symbols.ensures;
 }

@@ -8,18 +8,19 @@ loop-done-init g c = working-begins _ _ _ _ c.requires
 
 pub loop-done-preserved : goal.loop-done-preserved
 loop-done-preserved g c =
-    works-on c.loop-done.invariant c.advance-more.ensures.piece _ _ c.advance-more.ensures.later
-    c.advance-more.ensures.gives tt (ok-of c.advance-more.result.1 (sym c.is_err.ensures.value ∙ c.if-is_err.false))
+    works-on c.loop-done.invariant c.advance_watched-more.ensures.piece _ _ c.advance_watched-more.ensures.later
+    c.advance_watched-more.ensures.gives tt
+    (ok-of c.advance_watched-more.result.1 (sym c.is_err.ensures.value ∙ c.if-is_err.false))
 
 pub returns-then-more-eq0 : goal.returns-then-more-eq0
 returns-then-more-eq0 g c =
-    let r = c.advance-more.result.1 in
-    let none : OnOk r (c.advance-more.result.0 ≡ 0) = elim c.then-more-eq0.branch [
+    let r = c.advance_watched-more.result.1 in
+    let none : OnOk r (c.advance_watched-more.result.0 ≡ 0) = elim c.then-more-eq0.branch [
       | then-more-eq0-via-then-more-eq0 w ↦ on-all _ r w.if-more-eq0.true
       | then-more-eq0-via-else-more-eq0+then-is_err w ↦ on-err _ r (sym w.is_err.ensures.value ∙ w.if-is_err.true)
     ] in
-    let w = ends-by c.loop-done.invariant c.advance-more.ensures.piece _ _ c.advance-more.ensures.later
-    c.advance-more.ensures.gives none in
+    let w = ends-by c.loop-done.invariant c.advance_watched-more.ensures.piece _ _ c.advance_watched-more.ensures.later
+    c.advance_watched-more.ensures.gives none in
     record { gives = w.gives; count = w.within; all = w.all; later = w.later }
 
 pub returns : goal.returns

@@ -1,8 +1,8 @@
 use Rattle.std.proofs.Common.{sym, ◌∙◌}
-use Rattle.gdbstate.proofs.Passing.{empty-of, stops-only}
+use Rattle.gdbstate.proofs.Passing.{empty-of, stops-only-at}
 use Rattle.gdbstate.proofs.reasons.ReasonsWanted.addresses.Goals as goal
 
 pub returns-in-empty : goal.returns-in-empty
 returns-in-empty c =
-    stops-only c.args.self.now c.deref.result.now c.deref.ensures.value (sym c.if-is_some.ensures)
+    stops-only-at c.args.self.now c.places.result (λ places. places.now) c.places.ensures (sym c.if-is_some.ensures)
     (sym c.as_slice.ensures.value ∙ empty-of c.as_slice.result.now c.in-empty.len_below)

@@ -1,0 +1,33 @@
+use Rattle.std.proofs.Common.{ap, arith, refl, ◌∙◌}
+use Rattle.driver.proofs.Driving.{gives-run, ticks-end, ticks-halt, ticks-more}
+use Rattle.driver.proofs.Walking.{far-none, far-through, far-up, lost}
+use Rattle.driver.proofs.driver.Driver.tick.Goals as goal
+
+pub loop-made-init : goal.loop-made-init
+loop-made-init g c = record { far = far-none c.requires; within = omega arith; clock = refl }
+
+pub each-requires : goal.each-requires
+each-requires g c = rw c.write_out.ensures.machine (far-up c.loop-made.invariant.far)
+
+pub returns-in_err-each : goal.returns-in_err-each
+returns-in_err-each g c =
+    let w = c.write_out.ensures in
+    let h = far-through c.loop-made.invariant.far w.machine (ap g.R.Record.kept w.keeper) w.kept w.later in
+    rw (lost _ c.from_residual.ensures.1)
+    (ticks-halt h c.loop-made.invariant.within (omega arith)
+    (gives-run c.ticks.ensures c.in_err-each.ensures.gives c.in_err-each.ensures.later))
+
+pub loop-made-preserved : goal.loop-made-preserved
+loop-made-preserved g c =
+    let w = c.write_out.ensures in
+    let h = far-through c.loop-made.invariant.far w.machine (ap g.R.Record.kept w.keeper) w.kept w.later in
+    record {
+      far = ticks-more h c.loop-made.invariant.within (omega arith)
+          (gives-run c.ticks.ensures c.in_ok-each.ensures.gives c.in_ok-each.ensures.later);
+      within = omega arith;
+      clock = w.clock ∙ c.loop-made.invariant.clock;
+    }
+
+pub returns : goal.returns
+returns g c =
+    ticks-end c.loop-made.invariant.far c.loop-made.invariant.within c.loop-made-test.false c.loop-made.invariant.clock

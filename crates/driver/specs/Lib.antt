@@ -1,0 +1,9 @@
+pub mod Pacing
+pub mod Goals
+pub mod Spots
+pub mod Strides
+pub mod Walks
+pub mod Wanted
+pub mod Driven
+pub mod Tails
+pub mod Commands

@@ -1,0 +1,169 @@
+//! Events that a machine is given at once.
+ghost use Rattle.std.specs.Prelude.{[], ◌∷◌, ◌<◌, ◌≡◌, ◌≤◌, map, replicate, true};
+ghost use Rattle.driver.specs.Strides.{IsStill, Passes};
+ghost use Rattle.machine.specs.Gives.{RunGivesTo, StepGivesTo};
+ghost use Rattle.machine.specs.View.{IsUp};
+ghost use Rattle.playtext.specs.declared.clock.Clock.TheVariants.{Off};
+ghost use Rattle.unixmodel.specs.Next.{next};
+ghost use Rattle.unixmodel.specs.declared.event.Event.TheVariants.{Key, Step};
+
+use blockdev::BlockDev;
+use console::Out;
+use live::{Detail, Watch};
+use machine::{Halt, Machine};
+use sv39::Translate;
+use unixmodel::event::Event;
+
+/// The fewest steps that are done in one loop: entering it costs as much as a few steps.
+const LOOP: u32 = 8;
+
+// Gives one event, which is watched. It is inlined, so that the loop of a run has the machine's step in it.
+#[inline(always)]
+fn give<D: BlockDev, T: Translate, V: Watch, W: Out>(
+    machine: &mut Machine<D, T>,
+    event: Event,
+    watch: &mut V,
+    out: &mut W,
+) -> Result<(), Halt>
+    ensures gives { StepGivesTo W.contents W.failures machine.old machine.new out.old out.new
+        (next machine.old.state event) result }
+    ensures later { W.failures out.old ≤ W.failures out.new }
+{
+    watch.before(machine, event);
+    let ended = machine.step(event, out);
+    watch.after(machine, event, ended);
+    ended
+}
+
+/// The same where the machine takes events, as a run of one.
+pub fn once<D: BlockDev, T: Translate, V: Watch, W: Out>(
+    machine: &mut Machine<D, T>,
+    event: Event,
+    watch: &mut V,
+    out: &mut W,
+) -> Result<(), Halt>
+    requires { IsUp machine.old }
+    ensures gives { RunGivesTo W.contents W.failures machine.old machine.new out.old out.new (event ∷ []) result }
+    ensures later { W.failures out.old ≤ W.failures out.new }
+{
+    give(machine, event, watch, out)
+}
+
+/// Gives the same event `times` times.
+pub fn each<D: BlockDev, T: Translate, V: Watch, W: Out>(
+    machine: &mut Machine<D, T>,
+    event: Event,
+    times: u32,
+    watch: &mut V,
+    out: &mut W,
+) -> Result<(), Halt>
+    requires { IsUp machine.old }
+    ensures gives { RunGivesTo W.contents W.failures machine.old machine.new out.old out.new (replicate times event)
+        result }
+    ensures later { W.failures out.old ≤ W.failures out.new }
+{
+    let mut left = times;
+    while left > 0 {
+        give(machine, event, watch, out)?;
+        left -= 1;
+    }
+    Ok(())
+}
+
+/// Gives keys, one after the other.
+pub fn press<D: BlockDev, T: Translate, V: Watch, W: Out>(
+    machine: &mut Machine<D, T>,
+    keys: &[u8],
+    watch: &mut V,
+    out: &mut W,
+) -> Result<(), Halt>
+    requires { IsUp machine.old }
+    ensures gives { RunGivesTo W.contents W.failures machine.old machine.new out.old out.new (map Key keys.now) result }
+    ensures later { W.failures out.old ≤ W.failures out.new }
+{
+    for key in keys {
+        give(machine, Event::Key(*key), watch, out)?;
+    }
+    Ok(())
+}
+
+// Whether instructions go in one loop, of which there may be this many.
+fn is_loop(detail: Detail, most: u32) -> bool {
+    match detail {
+        Detail::Nothing => most >= LOOP,
+        Detail::Calls => true,
+        Detail::Steps => false,
+    }
+}
+
+// Does at most `most` instructions of the process that runs, up to a call or a fault, unless who looks on wants to see
+// each. Returns how many.
+fn instruct<D: BlockDev, T: Translate, V: Watch>(
+    machine: &mut Machine<D, T>,
+    most: u32,
+    watch: &mut V,
+) -> u32
+    requires { IsUp machine.old }
+    ensures passes { Passes machine.old machine.new result }
+    ensures within { result ≤ most }
+{
+    if !is_loop(watch.detail(), most) {
+        return 0;
+    }
+    let passed = machine.compute(most, &[]);
+    if passed > 0 {
+        watch.passed(machine, passed);
+    }
+    passed
+}
+
+/// Takes at most `most` steps, as many as are done in one go: instructions up to a call or a fault, or one step, or all
+/// where no process runs and none is ready. Returns how many they were, with the result of the last. Before none but
+/// the first of them anything comes that a source may wait for.
+pub fn stride<D: BlockDev, T: Translate, V: Watch, W: Out>(
+    machine: &mut Machine<D, T>,
+    most: u32,
+    watch: &mut V,
+    out: &mut W,
+) -> (u32, Result<(), Halt>)
+    requires up { IsUp machine.old }
+    requires some { 0 < most }
+    ensures gives { RunGivesTo W.contents W.failures machine.old machine.new out.old out.new (replicate result.0 Step)
+        result.1 }
+    ensures within { (0 < result.0) × (result.0 ≤ most) }
+    ensures still { IsStill machine.old.state Off result.0 }
+    ensures later { W.failures out.old ≤ W.failures out.new }
+{
+    if machine.is_idle() {
+        let ended = machine.steps(most, out);
+        watch.passed(machine, most);
+        return (most, ended);
+    }
+    let passed = instruct(machine, most, watch);
+    if passed > 0 {
+        return (passed, Ok(()));
+    }
+    (1, give(machine, Event::Step, watch, out))
+}
+
+/// The same for a source that may wait for something, or doesn't: then many steps that nobody watches go in one loop.
+pub fn stretch<D: BlockDev, T: Translate, V: Watch, W: Out>(
+    machine: &mut Machine<D, T>,
+    most: u32,
+    aims: bool,
+    watch: &mut V,
+    out: &mut W,
+) -> (u32, Result<(), Halt>)
+    requires up { IsUp machine.old }
+    requires some { 0 < most }
+    ensures gives { RunGivesTo W.contents W.failures machine.old machine.new out.old out.new (replicate result.0 Step)
+        result.1 }
+    ensures within { (0 < result.0) × (result.0 ≤ most) }
+    ensures still { aims ≡ true → IsStill machine.old.state Off result.0 }
+    ensures later { W.failures out.old ≤ W.failures out.new }
+{
+    if !aims && watch.detail() == Detail::Nothing && most >= LOOP {
+        return (most, machine.steps(most, out));
+    }
+    stride(machine, most, watch, out)
+}

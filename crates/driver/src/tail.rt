@@ -1,0 +1,128 @@
+//! An output that remembers its last bytes.
+ghost use Rattle.std.specs.Prelude.{[], IfOk, IfSome, MatchBool, MatchResult, OnErr, ◌++◌, ◌<◌, ◌∷◌, ◌≡◌, ◌≤◌};
+ghost use Rattle.std.specs.Prelude.{length, take};
+ghost use Rattle.std.specs.Io.KnownBytes.{Appends, Keeps};
+ghost use Rattle.driver.specs.Goals.{EndsWith, last_bytes};
+ghost use Rattle.unixmodel.specs.Failures.{Rises};
+
+use arrayvec::ArrayVec;
+use console::{Out, OutFault};
+use playtext::MOST_SHOWN;
+use std::io::Write;
+use std::marker::Model;
+
+/// The output that a writer makes, as `console::Writer` is one, of which the last bytes are remembered.
+#[derive(Drop)]
+pub struct Tail<W: Write> {
+    inner: W,
+    failed: u64,
+    last: ArrayVec<u8, MOST_SHOWN>,
+}
+
+impl<W: Write> Model for Tail<W> {
+    ghost use Rattle.driver.specs.Driven.{Printed};
+    ghost use Rattle.driver.specs.Tails.{remembered};
+
+    ghost Value = { Printed };
+
+    ghost view = { λ t. record { contents = remembered (W.contents t.inner) t.last.items; failed = t.failed } };
+}
+
+// Remembers a byte after the others, and forgets the oldest of 64 for it.
+fn push(last: &mut ArrayVec<u8, MOST_SHOWN>, byte: u8)
+    ensures { last.new.items ≡ last_bytes 64 (last.old.items ++ byte ∷ []) }
+{
+    if last.is_full() {
+        last.remove(0);
+    }
+    last.push(byte);
+}
+
+// Remembers bytes after the others.
+fn remember(last: &mut ArrayVec<u8, MOST_SHOWN>, bytes: &[u8])
+    ensures { last.new.items ≡ last_bytes 64 (last.old.items ++ bytes.now) }
+{
+    prove!(last.len() <= MOST_SHOWN);
+    for byte in bytes {
+        push(last, *byte);
+    }
+}
+
+impl<W: Write> Tail<W> {
+    /// An output over a writer that has no bytes yet, as far as that is known.
+    pub fn new(inner: W) -> Self
+        requires silent { IfSome (W.contents inner) (λ bytes. bytes ≡ []) }
+        ensures contents { result.contents ≡ W.contents inner }
+        ensures failed { result.failed ≡ 0 }
+    {
+        Tail {
+            inner,
+            failed: 0,
+            last: ArrayVec::new(),
+        }
+    }
+
+    /// The writer, and how often it has failed, up to `u64::MAX`.
+    pub fn into_parts(self) -> (W, u64)
+        ensures contents { Keeps self.contents (W.contents result.0) }
+        ensures failed { result.1 ≡ self.failed }
+    {
+        let Tail { inner, failed, .. } = self;
+        (inner, failed)
+    }
+
+    /// Writes out what the writer kept back, if it takes it: what it doesn't take it is asked for again.
+    pub fn flush(&mut self)
+        ensures kept { Keeps self.old.contents self.new.contents }
+        ensures later { self.old.failed ≤ self.new.failed }
+    {
+        if self.inner.flush().is_err() {
+            self.failed = self.failed.saturating_add(1);
+        }
+    }
+
+    // Hands bytes to the writer, and returns how many it took.
+    fn write(&mut self, bytes: &[u8]) -> Result<usize, OutFault>
+        ensures some { IfOk result (λ count. (0 < count) × (count ≤ length bytes.now)) }
+        ensures takes { MatchResult result (λ count. Appends self.old.contents self.new.contents (take count bytes.now))
+            (λ fault. Keeps self.old.contents self.new.contents) }
+        ensures later { self.old.failed ≤ self.new.failed }
+        ensures cause { OnErr result (Rises self.old.failed self.new.failed) }
+    {
+        match self.inner.write(bytes) {
+            Ok(count) if count > 0 => {
+                let (taken, _) = bytes.split_at(count);
+                remember(&mut self.last, taken);
+                Ok(count)
+            }
+            _ => {
+                self.failed = self.failed.saturating_add(1);
+                Err(OutFault::Writer)
+            }
+        }
+    }
+
+    /// Whether the last bytes are these, of all that was put out where that is known.
+    pub fn ends_with(&self, bytes: &[u8]) -> bool
+        requires { length bytes.now ≤ 64 }
+        ensures { IfSome self.now.contents
+            (λ all. MatchBool result (EndsWith bytes.now all) (¬ EndsWith bytes.now all)) }
+    {
+        self.last.as_slice().ends_with(bytes)
+    }
+}
+
+impl<W: Write> Out for Tail<W> {
+    ghost contents = { λ t. t.contents };
+
+    ghost failures = { λ t. t.failed };
+
+    fn put(&mut self, bytes: &[u8]) -> Result<(), OutFault> {
+        let mut done = 0;
+        while done < bytes.len() {
+            let (_, rest) = bytes.split_at(done);
+            done += self.write(rest)?;
+        }
+        Ok(())
+    }
+}

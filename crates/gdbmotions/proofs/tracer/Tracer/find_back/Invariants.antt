@@ -1,0 +1,6 @@
+use Rattle.std.proofs.Common.{◌≡◌}
+use Rattle.gdbmotions.proofs.tracer.Tracer.find_back.Given as goal
+
+-- the machine only moves
+abbrev pub invariant-loop-pass : goal.invariant-loop-pass
+invariant-loop-pass l = l.timeline ≡ record l.fn.timeline { at = l.timeline.at }
