@@ -185,21 +185,46 @@ With each call noted it makes {noted} million steps a second."""
     return [size_of(page), f"{first} ms", f"{float(rate):.0f}"], more
 
 
+# What functions of the library took of the stack while the slots of processes lay in the table itself, in bytes; the others took less.
+STACK_BEFORE = {"xv6_boot": 437288, "xv6_free_space": 394664, "xv6_copy": 394520, "xv6_run": 29168, "xv6_steps": 26832}
+
+
+def stacks(folder):
+    """How much of the stack those functions of the library take that take most, and took."""
+    with tempfile.TemporaryDirectory() as scratch:
+        program = pathlib.Path(scratch) / "stack"
+        words = ["cc", "-O2", "-pthread", f"-I{folder}", TOP / "bench" / "stack.c", folder / "libxv6.a", "-o", program]
+        subprocess.run(words, check=True)
+        said = subprocess.run([program, TOP / "user"], check=True, capture_output=True, text=True).stdout
+    taken = {}
+    for line in said.splitlines():
+        name, number = line.split()
+        taken[name] = max(int(number), taken.get(name, 0))
+    most = sorted(STACK_BEFORE, key=lambda name: -taken[name])
+    rest = max(number for name, number in taken.items() if name not in STACK_BEFORE)
+    rows_of = [[f"`{name}`", f"{taken[name]:,}", f"{STACK_BEFORE[name]:,}"] for name in most]
+    text = "\n\nBytes of the stack that a call takes in its thread (`bench/stack.c`); the old ones are of when the slots of processes\n"
+    text += "lay in the table itself, in a library that was compiled unproved, with checks.\n"
+    text += f"Each other function takes at most {rest:,}.\n\n"
+    return text + table(["function", "stack", "old stack"], rows_of)
+
+
 def library(place):
     """The library and the page, where they are made: sizes, boots and steps, and the old ones."""
     folder, page = TOP / "out" / "library", TOP / "out" / "web" / "xv6.html"
-    now, more = {}, ""
+    now, more, stack = {}, "", ""
     if (folder / "libxv6.so").exists():
         files = {"C": folder / "libxv6.a", "Python": folder / "libxv6.so", "xv6 run --tlb": place.xv6}
         patterns = [LIBRARY_LINE % re.escape(name) for name in files]
         for key, file, (boot, rate) in zip(BEFORE, files.values(), told(["bench/library.py", folder, place.xv6], *patterns)):
             now[key] = [size_of(file), f"{boot} ms", rate]
+        stack = stacks(folder)
     if page.exists() and any(map(shutil.which, ("chromium", "chromium-browser", "google-chrome"))):
         now[list(BEFORE)[-1]], more = page_row(page, place)
     head = ["", "size", "boot of 2 MB", "million steps a second", "old size", "old boot", "old steps"]
     text = "`bench/library.py` times the library from C and from Python beside the program, `web/measure.py` the page.\n"
     text += "The old ones are of 2026-11-26, when the library made no images, and the page had no views, times and exercises.\n\n"
-    return text + table(head, [[name, *numbers, *BEFORE[name]] for name, numbers in now.items()]) + more
+    return text + table(head, [[name, *numbers, *BEFORE[name]] for name, numbers in now.items()]) + more + stack
 
 
 # ---- lines, and times that others noted

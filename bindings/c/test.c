@@ -1,6 +1,6 @@
 /* test.c IMAGE SCRIPT: a session with each function of xv6.h, 40 machines at once, copies, and arguments that are wrong. The console's bytes go to
    standard output, and the events of the session to SCRIPT: `xv6 run --frames 256 IMAGE SCRIPT` has to print the same bytes.
-   Each call is made in a thread with a stack of 256 kB, except those that build a machine, which are made in one of 1 MB.
+   Each call is made in a thread with a stack of 256 kB.
    make check-library runs it under valgrind. The status is 0 where all is as it has to be. */
 #include "xv6.h"
 
@@ -37,72 +37,19 @@ static int read_image(const char *name)
 
 /* ---- threads */
 
-#define SMALL_STACK (256u * 1024u)
-#define LARGE_STACK (1024u * 1024u)
+#define STACK (256u * 1024u)
 
-/* Makes a call in a thread with a stack of so many bytes. */
-static void in_thread(size_t stack, void *(*call)(void *), void *words)
+/* Makes a call in a thread with a small stack. */
+static void in_thread(void *(*call)(void *), void *words)
 {
     pthread_attr_t how;
     pthread_t thread;
-    if (pthread_attr_init(&how) != 0 || pthread_attr_setstacksize(&how, stack) != 0 || pthread_create(&thread, &how, call, words) != 0) {
+    if (pthread_attr_init(&how) != 0 || pthread_attr_setstacksize(&how, STACK) != 0 || pthread_create(&thread, &how, call, words) != 0) {
         fprintf(stderr, "test.c: no thread\n");
         exit(2);
     }
     must(pthread_join(thread, NULL) == 0, "a thread ends");
     pthread_attr_destroy(&how);
-}
-
-/* A call that builds a machine, and what it answers. */
-struct building {
-    const uint8_t *bytes;
-    uint8_t *room;
-    size_t many;
-    uint32_t frames, answer;
-    struct xv6_machine *source, *out;
-    struct xv6_space *space;
-};
-
-static void *do_boot(void *words)
-{
-    struct building *it = words;
-    it->answer = xv6_boot(it->bytes, it->many, it->frames, it->out);
-    return NULL;
-}
-
-static void *do_copy(void *words)
-{
-    struct building *it = words;
-    it->answer = xv6_copy(it->source, it->out);
-    return NULL;
-}
-
-static void *do_free_space(void *words)
-{
-    struct building *it = words;
-    it->answer = xv6_free_space(it->source, it->room, it->many, it->space);
-    return NULL;
-}
-
-static uint32_t boot(const uint8_t *bytes, size_t many, uint32_t frames, struct xv6_machine *out)
-{
-    struct building it = {bytes, NULL, many, frames, 0, NULL, out, NULL};
-    in_thread(LARGE_STACK, do_boot, &it);
-    return it.answer;
-}
-
-static uint32_t copy(struct xv6_machine *source, struct xv6_machine *out)
-{
-    struct building it = {NULL, NULL, 0, 0, 0, source, out, NULL};
-    in_thread(LARGE_STACK, do_copy, &it);
-    return it.answer;
-}
-
-static uint32_t free_space(struct xv6_machine *source, uint8_t *room, size_t many, struct xv6_space *out)
-{
-    struct building it = {NULL, room, many, 0, 0, source, NULL, out};
-    in_thread(LARGE_STACK, do_free_space, &it);
-    return it.answer;
 }
 
 /* ---- a session */
@@ -209,7 +156,7 @@ static void save_and_boot(struct xv6_machine *machine)
     size_t bytes = 0;
     must(saved != NULL && xv6_save(machine, saved, length, &bytes) == 0 && bytes == length, "the image is saved");
     must(machine->inside == NULL, "a saved machine is closed");
-    must(boot(saved, length, FRAMES, &again) == 0 && find(&again, "d") != 0, "the saved image boots");
+    must(xv6_boot(saved, length, FRAMES, &again) == 0 && find(&again, "d") != 0, "the saved image boots");
     xv6_close(&again);
     free(saved);
 }
@@ -218,17 +165,17 @@ static void play(FILE *script)
 {
     static const char *const lines[] = {"ls", "echo hi | cat", "mkdir d", "ls d", "nope"};
     struct xv6_machine machine = {NULL};
-    struct xv6_space before, after;
+    struct xv6_space before = {0, 0}, after = {0, 0};
     uint8_t *room = malloc(length);
     uint32_t done, free_frames;
     size_t i;
     must(xv6_version() == XV6_VERSION, "the version");
-    must(boot(image, length, FRAMES, &machine) == 0, "the image boots");
+    must(xv6_boot(image, length, FRAMES, &machine) == 0, "the image boots");
     run(&machine, script);
     free_frames = xv6_free_frames(&machine);
     must(free_frames > 0 && free_frames < FRAMES, "free frames");
     must(xv6_ticks(&machine) == 0 && xv6_coming_pid(&machine) == 3, "no tick, and process 3 comes next");
-    must(room != NULL && free_space(&machine, room, length, &before) == 0, "free space");
+    must(room != NULL && xv6_free_space(&machine, room, length, &before) == 0, "free space");
     for (i = 0; i < sizeof lines / sizeof *lines; i++) {
         must(xv6_is_idle(&machine) == 1, "nobody is ready before a line");
         type(&machine, script, lines[i]);
@@ -241,9 +188,9 @@ static void play(FILE *script)
     must(xv6_run(&machine, MANY, &done) == 0 && done == 0, "nobody is ready");
     must(xv6_free_frames(&machine) == free_frames, "all frames came back");
     must(xv6_ticks(&machine) == 5 && xv6_coming_pid(&machine) == 9, "five ticks and six children came");
-    must(free_space(&machine, room, length, &after) == 0, "free space again");
+    must(xv6_free_space(&machine, room, length, &after) == 0, "free space again");
     must(after.blocks + 1 == before.blocks && after.inodes + 1 == before.inodes, "a directory takes a block and an inode");
-    must(free_space(&machine, room, length - 1, &before) == XV6_IMAGE_LENGTH && before.blocks != after.blocks, "too little room");
+    must(xv6_free_space(&machine, room, length - 1, &before) == XV6_IMAGE_LENGTH && before.blocks != after.blocks, "too little room");
     free(room);
     must(print_console(&machine, stdout) > 100, "the console's bytes");
     look_at_processes(&machine);
@@ -260,7 +207,7 @@ static void play_many(void)
     uint32_t done;
     size_t bytes[MACHINES];
     int i;
-    for (i = 0; i < MACHINES; i++) must(boot(image, length, 64, &machines[i]) == 0, "each of 40 boots");
+    for (i = 0; i < MACHINES; i++) must(xv6_boot(image, length, 64, &machines[i]) == 0, "each of 40 boots");
     for (i = 0; i < MACHINES; i++) {
         must(xv6_run(&machines[i], MANY, &done) == 0, "each of 40 runs");
         if (i % 2 == 0) must(xv6_key(&machines[i], 'x') == 0, "a key for every second");
@@ -291,10 +238,10 @@ static void play_copies(int source_goes_first)
     uint32_t done;
     size_t bytes;
     int i;
-    must(boot(image, length, FRAMES, &source) == 0 && xv6_run(&source, MANY, &done) == 0, "a machine that is copied");
+    must(xv6_boot(image, length, FRAMES, &source) == 0 && xv6_run(&source, MANY, &done) == 0, "a machine that is copied");
     must(xv6_key(&source, 'l') == 0 && xv6_key(&source, 's') == 0 && xv6_key(&source, '\n') == 0, "its line");
     must(xv6_steps(&source, 300) == 0, "it is at its line");
-    must(copy(&source, &twin) == 0 && copy(&source, &other) == 0, "two copies");
+    must(xv6_copy(&source, &twin) == 0 && xv6_copy(&source, &other) == 0, "two copies");
     must(twin.inside != NULL && twin.inside != source.inside && are_alike(&twin, &source), "a copy is like its source");
     must(xv6_tick(&other) == 0 && xv6_steps(&other, 300) == 0, "one copy goes on");
     must(are_alike(&twin, &source) && !are_alike(&other, &source), "the others stay");
@@ -320,9 +267,9 @@ static void copy_stopped(void)
     uint8_t *saved = malloc(length), *other = malloc(length);
     uint32_t done;
     size_t i, bytes = 0;
-    must(saved != NULL && other != NULL && boot(image, length, FRAMES, &machine) == 0, "the image boots for a kill");
+    must(saved != NULL && other != NULL && xv6_boot(image, length, FRAMES, &machine) == 0, "the image boots for a kill");
     for (i = 0; line[i] != 0; i++) must(xv6_key(&machine, (uint8_t)line[i]) == 0, "a key of a kill");
-    must(xv6_run(&machine, MANY, &done) == XV6_INIT_ENDED && copy(&machine, &twin) == 0, "a copy after the end");
+    must(xv6_run(&machine, MANY, &done) == XV6_INIT_ENDED && xv6_copy(&machine, &twin) == 0, "a copy after the end");
     must(xv6_tick(&machine) == XV6_HALTED && xv6_tick(&twin) == XV6_HALTED && are_alike(&twin, &machine), "both have stopped");
     must(xv6_save(&twin, other, length, &bytes) == 0 && bytes == length, "the copy is saved");
     must(xv6_save(&machine, saved, length, &bytes) == 0 && bytes == length, "its source is saved");
@@ -386,7 +333,7 @@ static void wait_at_pipe(void)
     struct xv6_wait wait;
     uint32_t done;
     size_t i;
-    must(boot(image, length, FRAMES, &machine) == 0 && xv6_run(&machine, MANY, &done) == 0, "a machine with a pipe");
+    must(xv6_boot(image, length, FRAMES, &machine) == 0 && xv6_run(&machine, MANY, &done) == 0, "a machine with a pipe");
     for (i = 0; line[i] != 0; i++) must(xv6_key(&machine, (uint8_t)line[i]) == 0, "a key of two programs");
     must(xv6_run(&machine, MANY, &done) == 0 && xv6_wait(&machine, 4, &wait) == 0 && wait.arguments[0] == 0, "the second waits");
     must(xv6_program(&machine, 4, &name) == 0 && strcmp(name.text, "cat") == 0, "it is cat");
@@ -403,9 +350,9 @@ static void watch(void)
     uint64_t digest = 0, other = 0;
     uint32_t done;
     size_t i;
-    must(boot(image, length, FRAMES, &machine) == 0 && xv6_run(&machine, MANY, &done) == 0, "a machine that is watched");
+    must(xv6_boot(image, length, FRAMES, &machine) == 0 && xv6_run(&machine, MANY, &done) == 0, "a machine that is watched");
     for (i = 0; line[i] != 0; i++) must(xv6_key(&machine, (uint8_t)line[i]) == 0, "a key of a pipe");
-    must(copy(&machine, &twin) == 0, "a copy of it");
+    must(xv6_copy(&machine, &twin) == 0, "a copy of it");
     must(xv6_digest(&machine, &digest) == 0 && xv6_digest(&twin, &other) == 0 && digest == other, "the same state, the same digest");
     must(xv6_run(&twin, MANY, &done) == 0 && go_by_calls(&machine, NULL, 0) == done, "from call to call it is as many steps");
     must(xv6_digest(&machine, &digest) == 0 && xv6_digest(&twin, &other) == 0 && digest == other, "and leaves the same state");
@@ -413,7 +360,7 @@ static void watch(void)
     for (i = 0; line[i] != 0; i++) must(xv6_key(&machine, (uint8_t)line[i]) == 0, "the keys again");
     must(xv6_steps(&machine, 1) == 0 && xv6_process(&machine, xv6_running(&machine), &process) == 0, "the shell runs");
     must(xv6_compute(&machine, 100, &process.pc, 0) > 2 && xv6_process(&machine, 2, &process) == 0, "the shell computes");
-    must(copy(&machine, &probe) == 0 && xv6_steps(&probe, 1) == 0 && xv6_compute(&probe, 1, NULL, 0) == 1, "a step after its call");
+    must(xv6_copy(&machine, &probe) == 0 && xv6_steps(&probe, 1) == 0 && xv6_compute(&probe, 1, NULL, 0) == 1, "a step after its call");
     must(xv6_process(&probe, 2, &process) == 0 && xv6_steps(&machine, 1) == 0, "where that comes to");
     must(xv6_compute(&machine, 100, &process.pc, 1) == 1 && xv6_process(&machine, 2, &other_process) == 0, "to an address");
     must(other_process.pc == process.pc, "and no further");
@@ -433,9 +380,9 @@ static void run_to(void)
     uint32_t done, pid, all = 0, calls = 0, exits = 0;
     uint8_t bytes[16];
     size_t i;
-    must(boot(image, length, FRAMES, &machine) == 0 && xv6_run(&machine, MANY, &done) == 0, "a machine that runs to something");
+    must(xv6_boot(image, length, FRAMES, &machine) == 0 && xv6_run(&machine, MANY, &done) == 0, "a machine that runs to something");
     for (i = 0; line[i] != 0; i++) must(xv6_key(&machine, (uint8_t)line[i]) == 0, "a key of it");
-    must(copy(&machine, &twin) == 0 && xv6_run(&twin, MANY, &done) == 0, "its twin");
+    must(xv6_copy(&machine, &twin) == 0 && xv6_run(&twin, MANY, &done) == 0, "its twin");
     do {
         must(xv6_run_to(&machine, XV6_TO_CALL | XV6_TO_FAULT | XV6_TO_EXIT, 0, MANY, &reached) == 0, "it runs to something");
         must(reached.what != XV6_TO_FAULT && (reached.what != XV6_TO_EXIT || reached.status == 0), "nothing of it is a fault");
@@ -471,7 +418,7 @@ static void run_to_address(void)
     struct xv6_process child;
     uint32_t done;
     size_t i;
-    must(boot(image, length, FRAMES, &machine) == 0 && xv6_run(&machine, MANY, &done) == 0, "a machine that runs to an address");
+    must(xv6_boot(image, length, FRAMES, &machine) == 0 && xv6_run(&machine, MANY, &done) == 0, "a machine that runs to an address");
     for (i = 0; line[i] != 0; i++) must(xv6_key(&machine, (uint8_t)line[i]) == 0, "a key of a program");
     must(xv6_run_to_address(&machine, 0, 3, MANY, &reached) == 0 && reached.what == XV6_TO_ADDRESS && reached.pid == 3, "to a program's begin");
     must(xv6_process(&machine, 3, &child) == 0 && child.pc == 0 && reached.done > 100, "it is there");
@@ -490,7 +437,7 @@ static void run_to_killed(void)
     struct xv6_reached reached;
     uint32_t done;
     size_t i;
-    must(boot(image, length, FRAMES, &machine) == 0 && xv6_run(&machine, MANY, &done) == 0, "a machine whose shell is killed");
+    must(xv6_boot(image, length, FRAMES, &machine) == 0 && xv6_run(&machine, MANY, &done) == 0, "a machine whose shell is killed");
     for (i = 0; line[i] != 0; i++) must(xv6_key(&machine, (uint8_t)line[i]) == 0, "a key of a kill");
     must(xv6_run_to(&machine, XV6_TO_EXIT, 2, MANY, &reached) == 0 && reached.what == XV6_TO_EXIT && reached.pid == 2, "the shell's end");
     must(reached.status == -1 && xv6_run_to(&machine, XV6_TO_EXIT, 0, MANY, &reached) == 0, "with status -1");
@@ -596,7 +543,7 @@ static void use_image(void)
     must(memcmp(before, made, sizeof made) == 0, "nothing is changed where it is refused");
     must(xv6_get(made, sizeof made, PATH("/none"), few, sizeof few, &many) == XV6_PATH_NOT_FOUND, "no file");
     must(xv6_list(made, sizeof made, PATH("/init"), lines, sizeof lines, &many) == XV6_PATH_NOT_DIRECTORY, "no directory");
-    must(boot(made, sizeof made, 64, &machine) == 0, "the image boots");
+    must(xv6_boot(made, sizeof made, 64, &machine) == 0, "the image boots");
     must(xv6_walk(&machine, 1, 0, &walk) == 0 && walk.count == 3, "the walk of address 0");
     must((walk.entries[0] & 31) == 1 && (walk.entries[1] & 31) == 1 && (walk.entries[2] & 31) == 31, "two tables and a leaf");
     must(xv6_walk(&machine, 1, (uint64_t)1 << 38, &walk) == 0 && walk.count == 0, "an address that is not canonical");
@@ -615,7 +562,7 @@ static void run_to_fault(void)
     struct xv6_reached reached;
     must(xv6_asm(PATH(text), file, sizeof file, &assembled) == 0, "a program that faults");
     must(xv6_put(made, sizeof made, PATH("/init"), file, assembled.bytes) == 0, "it is put");
-    must(boot(made, sizeof made, 64, &machine) == 0, "it boots");
+    must(xv6_boot(made, sizeof made, 64, &machine) == 0, "it boots");
     must(xv6_run_to(&machine, XV6_TO_FAULT, 1, MANY, &reached) == XV6_INIT_ENDED && reached.what == XV6_TO_FAULT, "to its fault");
     must(reached.fault.cause == XV6_LOAD_PAGE && reached.fault.address == 0x700000 && reached.fault.pc == 4, "which is a load's");
     xv6_close(&machine);
@@ -682,7 +629,7 @@ static uint32_t steps;
 static uint32_t boots(const uint8_t *bytes, size_t many, uint32_t frames)
 {
     struct xv6_machine machine = {NULL};
-    uint32_t answer = boot(bytes, many, frames, &machine);
+    uint32_t answer = xv6_boot(bytes, many, frames, &machine);
     must((answer == 0) == (machine.inside != NULL), "a handle is there after 0 alone");
     xv6_close(&machine);
     return answer;
@@ -701,7 +648,7 @@ static void refuse_images(void)
     ROW(boots(image, length, 32769), XV6_BOOT_FRAMES);
     ROW(boots(image, length, 0xffffffffu), XV6_BOOT_FRAMES);
     ROW(boots(image, length, 64), 0u);
-    ROW(boot(image, length, FRAMES, NULL), XV6_NULL);
+    ROW(xv6_boot(image, length, FRAMES, NULL), XV6_NULL);
 }
 
 /* Each function of a machine, where there is none. */
@@ -721,7 +668,7 @@ static void refuse_handle(struct xv6_machine *machine)
     ROW(xv6_coming_pid(machine), 0u);
     ROW(xv6_program(machine, 1, &name_out), XV6_NULL);
     ROW(xv6_could_end(machine, 1, 2), 0);
-    ROW(free_space(machine, image, length, &space_out), XV6_NULL);
+    ROW(xv6_free_space(machine, image, length, &space_out), XV6_NULL);
     ROW(xv6_compute(machine, 1, NULL, 0), 0u);
     ROW(xv6_running(machine), 0u);
     ROW(xv6_is_anyone_asleep(machine), 0u);
@@ -735,7 +682,7 @@ static void refuse_handle(struct xv6_machine *machine)
     ROW(xv6_stat(machine, 1, &stat_out), XV6_NULL);
     ROW(xv6_read(machine, 1, 0, room, sizeof room, &count), XV6_NULL);
     ROW(xv6_save(machine, room, sizeof room, &count), XV6_NULL);
-    ROW(copy(machine, &copied), XV6_NULL);
+    ROW(xv6_copy(machine, &copied), XV6_NULL);
     ROW(xv6_is_closed(&copied), 1);
     ROW(xv6_is_closed(machine), 1);
     xv6_close(machine);
@@ -765,8 +712,8 @@ static void refuse_nulls(void)
 /* A place that is null, for a machine that is up. */
 static void refuse_places(void)
 {
-    ROW(copy(&up, NULL), XV6_NULL);
-    ROW(copy(&up, &up), XV6_NULL);
+    ROW(xv6_copy(&up, NULL), XV6_NULL);
+    ROW(xv6_copy(&up, &up), XV6_NULL);
     ROW(xv6_run(&up, 1, NULL), XV6_NULL);
     ROW(xv6_process(&up, 1, NULL), XV6_NULL);
     ROW(xv6_stat(&up, 1, NULL), XV6_NULL);
@@ -778,8 +725,8 @@ static void refuse_places(void)
     ROW(xv6_fault(&up, 1, NULL), XV6_NULL);
     ROW(xv6_walk(&up, 1, 0, NULL), XV6_NULL);
     ROW(xv6_program(&up, 1, NULL), XV6_NULL);
-    ROW(free_space(&up, NULL, length, &space_out), XV6_NULL);
-    ROW(free_space(&up, image, length, NULL), XV6_NULL);
+    ROW(xv6_free_space(&up, NULL, length, &space_out), XV6_NULL);
+    ROW(xv6_free_space(&up, image, length, NULL), XV6_NULL);
     ROW(xv6_digest(&up, NULL), XV6_NULL);
     ROW(xv6_console(&up, NULL, 1), 0u);
     ROW(xv6_console(&up, NULL, 0), 0u);
@@ -834,10 +781,10 @@ static void refuse(void)
     refuse_images();
     refuse_nulls();
     refuse_handle(NULL);
-    must(boot(image, length, FRAMES, &closed) == 0, "the image boots again");
+    must(xv6_boot(image, length, FRAMES, &closed) == 0, "the image boots again");
     xv6_close(&closed);
     refuse_handle(&closed);
-    must(boot(image, length, FRAMES, &up) == 0, "the image boots a third time");
+    must(xv6_boot(image, length, FRAMES, &up) == 0, "the image boots a third time");
     refuse_places();
     find_nothing();
     press_keys();
@@ -873,7 +820,7 @@ int main(int argc, char **argv)
         fprintf(stderr, "test.c: an image that can be read, and a script that can be written\n");
         return 2;
     }
-    in_thread(SMALL_STACK, try_all, script);
+    in_thread(try_all, script);
     must(fclose(script) == 0, "the script is written");
     free(image);
     return wrong;

@@ -11,8 +11,8 @@
             xv6_page, xv6_free_frames, xv6_ticks, xv6_coming_pid, xv6_compute, xv6_running, xv6_is_anyone_asleep and
             xv6_directory return are no errors: where something is null the first returns 1, and the others 0.
    Threads  A machine is at one call at a time. Different machines may be at calls in different threads. No call is made from a
-            signal handler, nor from the forked child of a process with threads. A thread that boots or copies has a stack of 1 MB
-            or more: machines are built there, and one that finds too little ends the process. For all other calls 256 kB suffice.
+            signal handler, nor from the forked child of a process with threads. A thread that makes a call has a stack of 256 kB
+            or more: one that finds too little ends the process.
    Replays  The events of a machine are its steps, ticks and keys, and xv6_run tells how many steps it took: the same events on
             the same image with the same number of frames do the same, as with `xv6 run`. */
 #ifndef XV6_H

@@ -6,3 +6,4 @@ pub mod Steps
 pub mod ChangeLemmas
 pub mod Acts
 pub mod Straight
+pub mod Pages

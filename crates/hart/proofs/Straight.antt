@@ -351,39 +351,68 @@ pub whole-then : {b d : Held} {first mid new : Hart} {ram ram' ram'' : Ram} → 
 whole-then one two = record { inside = two.inside; count = two.count ∙ one.count; root = two.root ∙ one.root }
 
 -- operations of a page after earlier ones
-pub page-then : {a b d : Held} {stops : List ℕ} {first mid : Hart} (new : Hart) {pc : ℕ} {base : ℕ} (k to : ℕ)
-    {ram ram' : Ram} (ram'' : Ram) {count left f : ℕ} {done : ℕ} (stopped : Option Trap)
+pub page-then : {a b d : Held} {stops : List ℕ} {first mid : Hart} (new : Hart) (done rest : ℕ) {pc : ℕ} {base : ℕ} (k to : ℕ)
+    {ram ram' : Ram} (ram'' : Ram) {count left f : ℕ} (stopped : Option Trap)
     → GoesLeft a b stops first mid pc ram ram' count left f
-    → base ≡ first.pc / 4096 * 4096 → pc_at base k ≡ pc → done ≤ left
+    → base ≡ first.pc / 4096 * 4096 → pc_at base k ≡ pc → rest + done ≡ left
     → ((mapping : List Mapped) → frame_for mapping (base / 4096) Fetch ≡ Some f
     → GoesOn b d mid.root.0 mapping stops (point_at mid (pc_at base k) ram') (point_at new to ram'') done stopped)
     → (mapping : List Mapped) → frame_for mapping (first.pc / 4096) Fetch ≡ Some f
-    → GoesOn a d first.root.0 mapping stops (point_of first ram) (point_at new to ram'') (count - (left - done))
-    stopped
-page-then {a} {b} {d} {first} {mid} new {pc} {base} k to {ram} {ram'} ram'' {count} {left} {done} stopped before is
-    start within straight mapping at =
+    → GoesOn a d first.root.0 mapping stops (point_of first ram) (point_at new to ram'') (count - rest) stopped
+page-then {a} {b} {d} {first} {mid} new done rest {pc} {base} k to {ram} {ram'} ram'' {count} {left} stopped before is
+    start parts straight mapping at =
     let root : mid.root.0 ≡ first.root.0 = ap (λ (r : FrameNo). r.0) before.whole.root in
     let page : base / 4096 ≡ first.pc / 4096 = omega (arith, is) in
     let step = rw (root, start) at (straight mapping (rw page at)) in
-    let sum : count - (left - done) ≡ (count - left) + done = omega (arith, before.bounded, within) in
+    let sum : count - rest ≡ (count - left) + done = omega (arith, before.bounded, parts) in
     rw sum (goes-then _ _ _ before.behind (before.goes mapping at) step)
+
+-- nothing is done yet at an index
+pub left-begins : {held : Held} {stops : List ℕ} {hart : Hart} {ram : Ram} (base k : ℕ) {count left f : ℕ}
+    → HoldsInside held ram → pc_at base k ≡ hart.pc → left ≡ count
+    → GoesLeft held held stops hart hart (pc_at base k) ram ram count left f
+left-begins {held} {stops} {hart} {ram} base k {count} {left} {f} inside start all =
+    subst (λ pc. GoesLeft held held stops hart hart pc ram ram count left f) (sym start) (record {
+      whole = record { inside = inside; count = refl; root = refl };
+      bounded = omega (arith, all);
+      behind = inr (omega (arith, all), refl);
+      goes = λ mapping at. goes-none (omega (arith, all));
+    })
+
+-- a jump leads to another index, at no stop
+pub left-on : {a b d : Held} {stops : List ℕ} {first mid : Hart} (new : Hart) {base : ℕ} (k index to : ℕ)
+    {ram ram' : Ram} (ram'' : Ram) {count left f done rest : ℕ}
+    → GoesLeft a b stops first mid (pc_at base k) ram ram' count left f → base ≡ first.pc / 4096 * 4096
+    → 0 < done → rest + done ≡ left → StaysWhole d mid new ram' ram'' → is_stop stops to ≡ false → pc_at base index ≡ to
+    → ((mapping : List Mapped) → frame_for mapping (base / 4096) Fetch ≡ Some f
+    → GoesOn b d mid.root.0 mapping stops (point_at mid (pc_at base k) ram') (point_at new to ram'') done None)
+    → GoesLeft a d stops first new (pc_at base index) ram ram'' count rest f
+left-on {a} {b} {d} {stops} {first} {mid} new {base} k index to {ram} {ram'} ram'' {count} {left} {f} {done} {rest}
+    before is some parts whole clear there straight =
+    let bounded = before.bounded in
+    subst (λ pc. GoesLeft a d stops first new pc ram ram'' count rest f) (sym there) (record {
+      whole = whole-then before.whole whole;
+      bounded = omega (arith, parts, bounded);
+      behind = inl (omega (arith, some, parts, bounded), clear);
+      goes = page-then new done rest k to ram'' None before is refl parts straight;
+    })
 
 -- an operation that isn't done, after earlier ones, is at no stop
 pub stop-behind : {held held' : Held} {stops : List ℕ} {old new : Hart} {pc : ℕ} {ram ram' : Ram} {count left f : ℕ}
-    (base k end done : ℕ) → GoesLeft held held' stops old new pc ram ram' count left f
-    → pc_at base k ≡ pc → done < end - k → done ≤ left → IsClear stops base k end
-    → IsBehind stops (count - (left - done)) old.pc (pc_at base (k + done))
-stop-behind {stops} {old} {pc} {count} {left} base k end done before start fewer within clear = elim (cases_lt 0 done) [
+    (base k end done rest : ℕ) → GoesLeft held held' stops old new pc ram ram' count left f
+    → pc_at base k ≡ pc → done < end - k → rest + done ≡ left → IsClear stops base k end
+    → IsBehind stops (count - rest) old.pc (pc_at base (k + done))
+stop-behind {stops} {old} {pc} {count} {left} base k end done rest before start fewer parts clear = elim (cases_lt 0 done) [
   | inl some ↦ let bounded =
       before.bounded in inl (
-        omega (arith, some, within, bounded),
+        omega (arith, some, parts, bounded),
         clear (k + done) (omega (arith, some)) (omega (arith, fewer)),
       )
   | inr least ↦
       let none : done ≡ 0 = omega (arith, least) in
       let same : k ≡ k + done = omega (arith, none) in
       let there : pc_at base (k + done) ≡ pc = subst (λ j. pc_at base j ≡ pc) same start in
-      let count : count - left ≡ count - (left - done) = omega (arith, none) in
+      let count : count - left ≡ count - rest = omega (arith, none, parts) in
       rw (there, ← count) before.behind
 ]
 

@@ -1,5 +1,6 @@
 -- What operations do: each is an instruction with its fields taken from its word.
-use Rattle.std.specs.Prelude.{ℕ, ◌≡◌, ◌*◌, ◌/◌, List, Option, Some, None, Ok, slice_index, suc, zero}
+use Rattle.std.specs.Prelude.{ℕ, ◌≡◌, ◌<◌, ◌*◌, ◌/◌, List, Option, Some, None, Ok, slice_index, suc}
+use Rattle.std.specs.Prelude.{slice_index_or, zero}
 use Rattle.unixmodel.specs.declared.instr.BranchOp.{BranchOp}
 use Rattle.unixmodel.specs.declared.instr.ImmOp.{ImmOp}
 use Rattle.unixmodel.specs.declared.instr.RegOp.{RegOp}
@@ -129,3 +130,7 @@ Means op meant = (regs : List ℕ) (pc : ℕ) (see : Sight) → op_by op regs pc
 -- an operation is that of a word
 abbrev pub IsOp : Op → ℕ → Type 0
 IsOp op word = Means op (word_by (instruction_of word))
+
+-- each operation of a page is that of the word at its index
+abbrev pub AreDecoded : List ℕ → List Op → Type 0
+AreDecoded words ops = (k : ℕ) (d : Op) → k < 1024 → IsOp (slice_index_or ops k d) (slice_index words k)

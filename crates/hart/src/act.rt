@@ -8,9 +8,11 @@ ghost use Rattle.unixmodel.specs.Numbers.{extend};
 ghost use Rattle.unixmodel.specs.Translation.{HoldsInside};
 ghost use Rattle.hart.specs.Acts.{Acts, Turns};
 ghost use Rattle.hart.specs.Answered.{load_by, store_by};
+ghost use Rattle.hart.specs.Stops.{pc_at};
 ghost use Rattle.hart.specs.Operations.{by_branch, by_registers, by_words, offset_by, op_by};
 
 use crate::access::{is_aligned, load_size, load_value, locate, place, store_size, store_value};
+use crate::in_page::InPage;
 use crate::operation::{Op, Target};
 use crate::state::Hart;
 use crate::{alu, bits};
@@ -147,13 +149,14 @@ impl Hart {
 
     // Only a branch that is taken can have a wrong target.
     #[inline(always)]
-    fn go_if(&self, op: BranchOp, rs1: Reg, rs2: Reg, pc: u64, imm: u32) -> Next
-        ensures { Turns (by_branch op rs1 rs2 (extend 32 imm) self.now.registers pc) result pc self.now self.now }
+    fn go_if(&self, op: BranchOp, rs1: Reg, rs2: Reg, pc: InPage, imm: u32) -> Next
+        ensures { Turns (by_branch op rs1 rs2 (extend 32 imm) self.now.registers (pc_at pc.base pc.index)) result
+            (pc_at pc.base pc.index) self.now self.now }
     {
         if !alu::is_taken(op, self.read(rs1), self.read(rs2)) {
             return Next::Behind;
         }
-        self.go(pc.wrapping_add(bits::extend_u32(imm)))
+        self.go(pc.address().wrapping_add(bits::extend_u32(imm)))
     }
 
     // Reads memory into rd. A misaligned address is reported before a page fault.
@@ -228,20 +231,25 @@ impl Hart {
     pub fn act<T: Translate, Caller>(
         &mut self,
         op: &Op,
-        pc: u64,
+        pc: InPage,
         ram: &mut Ram,
         trans: &mut T,
     ) -> Next
         requires { HoldsInside (T.held trans.old) ram.old }
-        ensures { Acts (T.held trans.old) (T.held trans.new) (op_by op.now self.old.registers pc)
-            result pc self.old self.new ram.old ram.new }
+        ensures { Acts (T.held trans.old) (T.held trans.new)
+            (op_by op.now self.old.registers (pc_at pc.base pc.index)) result (pc_at pc.base pc.index) self.old self.new
+            ram.old ram.new }
     {
         match *op {
             Op::Lui { rd, imm } => self.put(rd, bits::extend_u32(imm)),
-            Op::Auipc { rd, imm } => self.put(rd, pc.wrapping_add(bits::extend_u32(imm))),
-            Op::Jal { rd, imm } => self.link(rd, pc, pc.wrapping_add(bits::extend_u32(imm))),
-            Op::J { imm } => self.go(pc.wrapping_add(bits::extend_u32(imm))),
-            Op::Jalr { rd, rs1, imm } => self.link(rd, pc, self.offset(rs1, imm) / 2 * 2),
+            Op::Auipc { rd, imm } => self.put(rd, pc.address().wrapping_add(bits::extend_u32(imm))),
+            Op::Jal { rd, imm } => self.link(
+                rd,
+                pc.address(),
+                pc.address().wrapping_add(bits::extend_u32(imm)),
+            ),
+            Op::J { imm } => self.go(pc.address().wrapping_add(bits::extend_u32(imm))),
+            Op::Jalr { rd, rs1, imm } => self.link(rd, pc.address(), self.offset(rs1, imm) / 2 * 2),
             Op::Jr { rs1, imm } => self.go(self.offset(rs1, imm) / 2 * 2),
             Op::Beq { rs1, rs2, imm } => self.go_if(BranchOp::Beq, rs1, rs2, pc, imm),
             Op::Bne { rs1, rs2, imm } => self.go_if(BranchOp::Bne, rs1, rs2, pc, imm),
@@ -369,9 +377,9 @@ impl Hart {
             Op::Remw { rd, rs1, rs2 } => self.word(RegOpW::Remw, rd, rs1, rs2),
             Op::Remuw { rd, rs1, rs2 } => self.word(RegOpW::Remuw, rd, rs1, rs2),
             Op::Nop => Next::Behind,
-            Op::Ecall => stop(Cause::EnvironmentCall, pc),
-            Op::Ebreak => stop(Cause::Breakpoint, pc),
-            Op::Illegal => stop(Cause::IllegalInstruction, pc),
+            Op::Ecall => stop(Cause::EnvironmentCall, pc.address()),
+            Op::Ebreak => stop(Cause::Breakpoint, pc.address()),
+            Op::Illegal => stop(Cause::IllegalInstruction, pc.address()),
         }
     }
 }

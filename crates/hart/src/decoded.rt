@@ -1,58 +1,57 @@
 //! Decoded words.
-ghost use Rattle.std.specs.Prelude.{◌≡◌, ◌<◌, IfOk, length, vec_len};
-ghost use Rattle.hart.specs.Operations.{IsOp};
+ghost use Rattle.std.specs.Prelude.{◌≡◌, ◌<◌, slice_index, vec_len};
+ghost use Rattle.hart.specs.Operations.{AreDecoded, IsOp};
 
 use crate::decoding::flatten;
 use crate::operation::Op;
 use std::alloc::{AllocError, Global};
 use std::marker::Model;
 
-/// A word and its operation.
+// How many words a page has.
+const WORDS: usize = 1024;
+
+/// The words of a page and their operations.
 #[derive(Drop)]
-pub struct Line {
-    word: u32,
-    op: Op,
-    ghost decoded: { IsOp op word },
+pub struct Page {
+    words: [u32; WORDS],
+    ops: [Op; WORDS],
+    ghost decoded: { AreDecoded words ops },
 }
 
-impl Line {
+impl Page {
+    #[cold]
     #[inline(never)]
-    fn decode(&mut self, word: u32)
-        ensures { self.new.word ≡ word }
+    fn decode(&mut self, k: usize, word: u32)
+        requires { k < 1024 }
+        ensures { slice_index self.new.words k ≡ word }
     {
-        *self = Line {
-            word,
-            op: flatten(word),
-        };
+        self.ops[k] = flatten(word);
+        self.words[k] = word;
     }
 
-    /// Makes it that of a word.
+    /// The operation of word `k`, which is this one now.
     #[inline(always)]
-    pub fn read(&mut self, word: u32)
-        ensures { self.new.word ≡ word }
+    #[tactic(auto, using(crate::proofs::Pages::one_read))]
+    pub fn op(&mut self, k: usize, word: u32) -> &Op
+        requires { k < 1024 }
+        ensures { IsOp result.now word }
     {
-        if self.word != word {
-            self.decode(word);
+        if self.words[k] != word {
+            self.decode(k, word);
         }
-    }
-
-    /// The operation.
-    #[inline(always)]
-    pub fn op(&self) -> &Op
-        ensures { IsOp result.now self.now.word }
-    {
-        &self.op
+        let page = &*self;
+        &page.ops[k]
     }
 }
 
-// What the words of 64 frames decode to.
-const LINES: usize = 65536;
+// How many frames have their words decoded.
+const PAGES: usize = 64;
 
-/// Decoded words of as many frames as fit: each frame has the lines of its number modulo 64, where a word is decoded
+/// Decoded words of as many frames as fit: each frame has the page of its number modulo 64, where a word is decoded
 /// anew if there is another one. In contracts it is nothing, as what it holds is not visible.
 #[derive(Drop)]
 pub struct Decoded {
-    lines: Vec<Line>,
+    pages: Vec<Page>,
 }
 
 impl Model for Decoded {
@@ -62,29 +61,26 @@ impl Model for Decoded {
 
     ghost view = { λ d. tt };
 
-    ghost invariant = { λ d. vec_len d.lines ≡ 65536 };
+    ghost invariant = { λ d. vec_len d.pages ≡ 64 };
 }
 
 impl Decoded {
     /// With nothing decoded. It takes 768 KiB of the host, and asks for no more later.
     pub fn new(alloc: Global) -> Result<Decoded, AllocError> {
-        let mut lines = Vec::with_capacity(alloc, LINES)?;
-        for _ in 0..LINES {
+        let mut pages = Vec::with_capacity(alloc, PAGES)?;
+        for _ in 0..PAGES {
             // the word 0 is no instruction
-            lines.push(Line {
-                word: 0,
-                op: Op::Illegal,
+            pages.push(Page {
+                words: [0; WORDS],
+                ops: [Op::Illegal; WORDS],
             })?;
         }
-        Ok(Decoded { lines })
+        Ok(Decoded { pages })
     }
 
-    /// The lines of a frame, by its number.
+    /// The words of a frame, by its number.
     #[inline]
-    pub fn page(&mut self, frame: u32) -> &mut [Line]
-        ensures { length result.now ≡ 1024 }
-    {
-        let at = (frame % 64) as usize * 1024;
-        &mut self.lines[at..at + 1024]
+    pub fn page(&mut self, frame: u32) -> &mut Page {
+        &mut self.pages[(frame % 64) as usize]
     }
 }

@@ -1,7 +1,8 @@
 //! Many instructions, one after the other.
 //!
 //! The loop over the operations of a page has the registers, the memory, the translator and the decoded words in
-//! references of their own, and the index in the page as a local: a hart's pc is written where a page is left.
+//! references of their own, and the index in the page as a local. A jump in the page leads to another index, and a
+//! hart's pc is written where the page is left.
 ghost use Rattle.std.specs.Prelude.{◌≡◌, ◌%◌, ◌/◌, ◌<◌, ◌≤◌, ◌+◌, ◌-◌, ◌*◌, ℕ, Err, IfNone, IfSome, List, None, Some};
 ghost use Rattle.std.specs.Prelude.{length};
 ghost use Rattle.unixmodel.specs.Translation.{HoldsInside};
@@ -13,24 +14,37 @@ ghost use Rattle.hart.specs.Runs.{GoesOn, MovesOn, StaysWhole, goes_to, point_at
 ghost use Rattle.hart.specs.Stops.{EndsAt, IsBehind, IsClear, pc_at};
 
 use crate::access::locate;
-use crate::act::Next;
-use crate::decoded::{Decoded, Line};
+use crate::act::{Aligned, Next};
+use crate::decoded::{Decoded, Page};
+use crate::in_page::InPage;
 use crate::state::Hart;
 use crate::stops::Stops;
 use ram::{FrameNo, Ram};
 use sv39::Translate;
 use unixmodel::trap::{Access, Cause, Trap};
 
-// How many words there are from one index to another, at most `left`.
+// The first of two indices after `k`.
 #[inline(always)]
-fn room(k: usize, end: usize, left: u32) -> usize
-    requires { k < end }
-    ensures end { k + result ≤ end }
-    ensures count { result ≤ left }
-    ensures some { 0 < left → 0 < result }
+fn first_of(k: usize, limit: usize, end: usize) -> usize
+    requires { (k < limit) × (k < end) }
+    ensures after { k < result }
+    ensures limit { result ≤ limit }
+    ensures end { result ≤ end }
 {
-    let left = left as usize;
-    if left < end - k { left } else { end - k }
+    if limit < end { limit } else { end }
+}
+
+// The index of a word in the page at `base`, if it is there.
+#[inline(always)]
+fn index_in(base: u64, to: Aligned) -> Option<usize>
+    requires { base % 4096 ≡ 0 }
+    ensures { IfSome result (λ k. (k < 1024) × (pc_at base k ≡ to)) }
+{
+    let offset = to.address().wrapping_sub(base);
+    if offset >= 4096 {
+        return None;
+    }
+    Some((offset / 4) as usize)
 }
 
 impl Hart {
@@ -38,7 +52,7 @@ impl Hart {
     #[inline(always)]
     fn obey<T: Translate, S>(
         &mut self,
-        line: &mut Line,
+        page: &mut Page,
         f: FrameNo,
         base: u64,
         k: usize,
@@ -53,8 +67,12 @@ impl Hart {
             (word_by (instruction_of (word_in ram.old f.0 (pc_at base k))) self.old.registers (pc_at base k))
             result (pc_at base k) self.old self.new ram.old ram.new }
     {
-        line.read(ram.load_u32(f, 4 * k));
-        self.act::<T, S>(line.op(), base.wrapping_add(4 * k as u64), ram, trans)
+        self.act::<T, S>(
+            page.op(k, ram.load_u32(f, 4 * k)),
+            InPage { base, index: k },
+            ram,
+            trans,
+        )
     }
 
     // Does operations of that page, from one index to another or to the first that jumps. Returns how many were done,
@@ -62,17 +80,16 @@ impl Hart {
     #[inline(always)]
     fn straight<T: Translate, S>(
         &mut self,
-        lines: &mut [Line],
+        page: &mut Page,
         f: FrameNo,
         base: u64,
         from: usize,
         end: usize,
         ram: &mut Ram,
         trans: &mut T,
-    ) -> (u32, Next)
+    ) -> (usize, Next)
         requires inside { HoldsInside (T.held trans.old) ram.old }
         requires frame { f.0 < length ram.old }
-        requires lines { length lines.old ≡ 1024 }
         requires places { (from ≤ end) × (end ≤ 1024) }
         requires page { base % 4096 ≡ 0 }
         ensures goes { (mapping : List Mapped) (stops : List ℕ)
@@ -87,13 +104,13 @@ impl Hart {
     {
         for k in from..end {
             ram.frames_are_whole();
-            match self.obey::<T, S>(&mut lines[k], f, base, k, ram, trans) {
+            match self.obey::<T, S>(page, f, base, k, ram, trans) {
                 Next::Behind => {}
-                Next::At(to) => return ((k - from + 1) as u32, Next::At(to)),
-                Next::Stop(trap) => return ((k - from) as u32, Next::Stop(trap)),
+                Next::At(to) => return (k - from + 1, Next::At(to)),
+                Next::Stop(trap) => return (k - from, Next::Stop(trap)),
             }
         }
-        ((end - from) as u32, Next::Behind)
+        (end - from, Next::Behind)
     }
 
     // Does at most `count` operations of the page of the pc, which has frame `f`, until a jump leaves the page, up to a
@@ -101,7 +118,7 @@ impl Hart {
     #[inline(never)]
     fn run_page<T: Translate, S: Stops>(
         &mut self,
-        lines: &mut [Line],
+        page: &mut Page,
         f: FrameNo,
         ram: &mut Ram,
         trans: &mut T,
@@ -110,7 +127,6 @@ impl Hart {
     ) -> (u32, Option<Trap>)
         requires inside { HoldsInside (T.held trans.old) ram.old }
         requires frame { f.0 < length ram.old }
-        requires lines { length lines.old ≡ 1024 }
         requires some { 0 < count }
         ensures goes { (mapping : List Mapped) → frame_for mapping (self.old.pc / 4096) Access.Fetch ≡ Some f.0 →
             GoesOn (T.held trans.old) (T.held trans.new) self.old.root.0 mapping (S.addresses stops.now)
@@ -123,33 +139,39 @@ impl Hart {
             (λ t. IsBehind (S.addresses stops.now) (count - result.0) self.old.pc self.new.pc) }
     {
         let base = self.pc / 4096 * 4096;
-        let mut pc = self.pc;
-        let mut left = count;
-        while left > 0 && pc / 4096 * 4096 == base {
-            let k = (pc % 4096 / 4) as usize;
-            let end = k + room(k, stops.clear_to(base, k), left);
-            let (done, next) = self.straight::<T, S>(lines, f, base, k, end, ram, trans);
-            left -= done;
+        let mut k = (self.pc % 4096 / 4) as usize;
+        // where the count ends, if no operation jumps
+        let mut limit = k + count as usize;
+        while k < limit {
+            let end = first_of(k, limit, stops.clear_to(base, k));
+            let (done, next) = self.straight::<T, S>(page, f, base, k, end, ram, trans);
+            let left = limit - (k + done);
             match next {
                 Next::At(to) => {
-                    pc = to.address();
+                    let pc = to.address();
                     if stops.has(pc) {
                         self.pc = pc;
-                        return (left, None);
+                        return (left as u32, None);
                     }
+                    let Some(index) = index_in(base, to) else {
+                        self.pc = pc;
+                        return (left as u32, None);
+                    };
+                    k = index;
+                    limit = k + left;
                 }
                 Next::Behind => {
-                    self.pc = base.wrapping_add(4 * (k + done as usize) as u64);
-                    return (left, None);
+                    self.pc = base.wrapping_add(4 * (k + done) as u64);
+                    return (left as u32, None);
                 }
                 Next::Stop(trap) => {
-                    self.pc = base.wrapping_add(4 * (k + done as usize) as u64);
-                    return (left, Some(trap));
+                    self.pc = base.wrapping_add(4 * (k + done) as u64);
+                    return (left as u32, Some(trap));
                 }
             }
         }
-        self.pc = pc;
-        (left, None)
+        self.pc = base.wrapping_add(4 * k as u64);
+        (0, None)
     }
 
     /// Does at most `count` instructions, up to the first that isn't done or to a stop after the first of them. Returns

@@ -13,6 +13,7 @@ ghost use Rattle.hart.specs.Follows.{Follows};
 use crate::access::{locate, place};
 use crate::act::Next;
 use crate::decoding::flatten;
+use crate::in_page::InPage;
 use crate::state::Hart;
 use ram::Ram;
 use sv39::Translate;
@@ -52,7 +53,7 @@ impl Hart {
                 address: pc,
             });
         };
-        match self.act::<T, Alone>(&flatten(word), pc, ram, trans) {
+        match self.act::<T, Alone>(&flatten(word), InPage::of(pc), ram, trans) {
             Next::Behind => {
                 self.pc = pc.wrapping_add(4);
                 None

@@ -37,7 +37,7 @@ fn is_in_user_state(places: &[Place], at: usize) -> bool {
 
 #[test]
 fn picks_in_turn(rt: HostRuntime) {
-    let mut table = Table::starting_at(1);
+    let mut table = Table::starting_at(rt.alloc(), 1).expect(&rt, "memory");
     table.put(0, child_of(0));
     table.put(1, child_of(1));
     table.put(2, child_of(1));
@@ -50,7 +50,7 @@ fn picks_in_turn(rt: HostRuntime) {
 // A process that is found not ready is looked at again once it is woken.
 #[test]
 fn looks_at_who_is_awake(rt: HostRuntime) {
-    let mut table = Table::starting_at(1);
+    let mut table = Table::starting_at(rt.alloc(), 1).expect(&rt, "memory");
     assert!(rt; table.pick(|_, _| false).is_none());
     table.wake(1);
     assert!(rt; table.pick(|_, at| at == 1) == Some(1));
@@ -317,9 +317,9 @@ static CASES: [Case; 6] = [
     },
 ];
 
-fn expect(rt: &impl Abort, case: &Case) {
+fn expect(rt: &(impl Abort + AllocGlobal), case: &Case) {
     assert!(rt; 1 <= case.first_pid && case.first_pid <= 2147483647);
-    let mut table = Table::starting_at(case.first_pid);
+    let mut table = Table::starting_at(rt.alloc(), case.first_pid).expect(rt, "memory");
     for (at, act) in case.acts.iter().enumerate() {
         expect_row(rt, does(&mut table, *act), case.name, at);
     }

@@ -16,7 +16,7 @@ use mount::mount_flat;
 use proc::{Process, Table};
 use ram::FRAME_SIZE;
 use spaces::Spaces;
-use std::alloc::Global;
+use std::alloc::{AllocError, Global};
 use sv39::{Plain, Translate};
 use tree::Tree;
 use unixmodel::process::Mode;
@@ -110,13 +110,13 @@ fn first(size: u64) -> Process
 }
 
 // The table with process 1 alone.
-fn first_table(size: u64) -> Table
+fn first_table(alloc: Global, size: u64) -> Result<Table, AllocError>
     requires { 16 ≤ size }
-    ensures { result ≡ first_table size }
+    ensures { IfOk result (λ table. table ≡ first_table size) }
 {
-    let mut table = Table::starting_at(1);
+    let mut table = Table::starting_at(alloc, 1)?;
     let _seat = table.alloc(first(size));
-    table
+    Ok(table)
 }
 
 // The console is open, and the descriptors 0, 1 and 2 of process 1 name it.
@@ -197,9 +197,11 @@ pub fn boot_flat_on<D: BlockDev, T: Translate>(
     if !load(&mut spaces, bytes) {
         return Err(BootFault::NoInit);
     }
+    let Ok(table) = first_table(alloc, spaces.size(FIRST)) else {
+        return Err(BootFault::NoMemory);
+    };
     tree.hold(ROOT);
     tree.hold(CONSOLE_NODE);
-    let table = first_table(spaces.size(FIRST));
     let kernel = Kernel::new(tree, table, spaces, first_files());
     let machine = Machine::new(kernel);
     Ok(machine)

@@ -20,7 +20,7 @@ use mount::mount;
 use proc::{Process, Table};
 use programs::{Arguments, Program, load, one_argument, read_program};
 use spaces::Spaces;
-use std::alloc::Global;
+use std::alloc::{AllocError, Global};
 use sv39::Translate;
 use tree::Tree;
 use unixmodel::process::Mode;
@@ -127,12 +127,12 @@ fn first(init: &Init) -> Process
 }
 
 // The table with process 1 alone.
-fn first_table(init: &Init) -> Table
-    ensures { result ≡ first_places (bare_of init.now) }
+fn first_table(alloc: Global, init: &Init) -> Result<Table, AllocError>
+    ensures { IfOk result (λ table. table ≡ first_places (bare_of init.now)) }
 {
-    let mut table = Table::starting_at(1);
+    let mut table = Table::starting_at(alloc, 1)?;
     let _seat = table.alloc(first(init));
-    table
+    Ok(table)
 }
 
 // A machine over files in use that nobody holds, whose process 1 executes `/init`.
@@ -152,9 +152,11 @@ fn boot_on<D: BlockDev, T: Translate>(
     };
     match put_init(&mut tree, &mut spaces) {
         Ok(Some(init)) => {
+            let Ok(table) = first_table(alloc, &init) else {
+                return Err(BootFault::NoMemory);
+            };
             tree.is_whole();
             tree.hold(ROOT);
-            let table = first_table(&init);
             let files = Files::new();
             let kernel = Kernel::new(tree, table, spaces, files);
             let machine = Machine::new(kernel);

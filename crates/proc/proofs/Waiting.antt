@@ -7,9 +7,8 @@ use Rattle.proc.proofs.Common.{NoneFrom, Places, is_child_of, orphaned, seat_at,
 use Rattle.proc.proofs.Common.{IsWithin, NoneWaits, waits_so, with_place, Process, Inside, WaitPlaces, free_slot, slot}
 use Rattle.proc.proofs.Common.{holds, take, cond, is_some, position, ◌==◌, ◌||◌, list_any, eq-eqb, le-ltb, lt-ltb}
 use Rattle.proc.proofs.Common.{ne_eqb, take_all, IsNextOf, lesser, has_pid, place_where}
-use Rattle.std.proofs.Common.{length-set}
-use Rattle.std.proofs.lemmas.List.{length-map}
-use Rattle.arrayvec.proofs.ArrayVecLemmas.{items-with_items}
+use Rattle.std.proofs.Common.{Global, length-set, Vec}
+use Rattle.std.proofs.lemmas.List.{length-map, with_items_is}
 use Rattle.proc.specs.Sound.{IsSound}
 use Rattle.proc.specs.declared.table.ProcFault.TheVariants.{Pids}
 use Rattle.proc.specs.declared.table.Seat.{Seat}
@@ -265,20 +264,20 @@ module _ {places : Processes} {may : WaitPlaces} (are : AreWithin places may) wh
 
 -- ---- a table that changes
 
--- a write through the slice of all
-pub refilled : (xs : Processes) {ys zs : Processes} → length zs ≡ length xs → ys ≡ zs → refill (length xs) xs ys ≡ zs
-refilled xs {ys} same is = items-with_items _ ys (ap length is ∙ same) ∙ is
+-- the slots on the heap
+abbrev pub Slots : Type 0
+Slots = Vec (Option Process) Global
 
-pub refilled-set : {xs ys : Processes} (i : ℕ) (o : Option Process) → ys ≡ xs
-    → refill (length xs) xs (slice_set ys i o) ≡ slice_set xs i o
-refilled-set {xs} {ys} i o same = refilled xs (length-set xs i o) (ap (λ l. slice_set l i o) same)
+-- a write through the slice of all
+pub refilled : (v : Slots) {ys zs : Processes} → length zs ≡ length v.items → ys ≡ zs → refill v.len v.items ys ≡ zs
+refilled v {ys} same is = with_items_is v ys (ap length is ∙ same ∙ sym v.ok.0) ∙ is
 
 module _ {t : Inside} (is : IsSound t) where
   -- a table with as many slots, where whoever waits is in a slot of the masks
-  sound-as : {items new : Processes} {next_pid : ℕ} {waiting may : WaitPlaces} → items ≡ new
+  sound-as : {places : Slots} {new : Processes} {next_pid : ℕ} {waiting may : WaitPlaces} → places.items ≡ new
       → length new ≡ length t.places.items → next_pid ≤ 2147483648 → waiting ≡ may → AreWithin new may
       → IsSound (record {
-        places = record { items = items };
+        places = places;
         last = t.last;
         next_pid = next_pid;
         awake = t.awake;
@@ -287,10 +286,10 @@ module _ {t : Inside} (is : IsSound t) where
   sound-as now all fits set' within =
       record { all = ap length now ∙ all ∙ is.all; last = is.last; pids = fits; waiting = rw (now, set') within }
 
-  pub sound-put : (i : ℕ) (o : Option Process) {items : Processes} {next_pid : ℕ} {waiting : WaitPlaces}
-      → items ≡ slice_set t.places.items i o → next_pid ≤ 2147483648 → waiting ≡ with_place t.waiting i
+  pub sound-put : (i : ℕ) (o : Option Process) {places : Slots} {next_pid : ℕ} {waiting : WaitPlaces}
+      → places.items ≡ slice_set t.places.items i o → next_pid ≤ 2147483648 → waiting ≡ with_place t.waiting i
       → IsSound (record {
-        places = record { items = items };
+        places = places;
         last = t.last;
         next_pid = next_pid;
         awake = t.awake;
@@ -299,12 +298,12 @@ module _ {t : Inside} (is : IsSound t) where
   sound-put i o {next_pid} put fits set' =
       sound-as put (length-set t.places.items i o) fits set' (within-put is.waiting i o)
 
-  pub sound-freed : (i : ℕ) {items : Processes} → items ≡ slice_set t.places.items i None
-      → IsSound (record t { places = record { items = items } })
+  pub sound-freed : (i : ℕ) {places : Slots} → places.items ≡ slice_set t.places.items i None
+      → IsSound (record t { places = places })
   sound-freed i freed = sound-as freed (length-set t.places.items i None) is.pids refl (within-freed is.waiting i)
 
-  pub sound-orphaned : (pid : ℕ) {items : Processes} → items ≡ map (option_map (orphaned pid)) t.places.items
-      → IsSound (record t { places = record { items = items } })
+  pub sound-orphaned : (pid : ℕ) {places : Slots} → places.items ≡ map (option_map (orphaned pid)) t.places.items
+      → IsSound (record t { places = places })
   sound-orphaned pid mapped =
       sound-as mapped (length-map t.places.items (option_map (orphaned pid))) is.pids refl
       (within-orphaned is.waiting _)

@@ -14,7 +14,7 @@ ghost use Rattle.unixmodel.specs.declared.process.Mode.TheVariants.{Ready, Runni
 use crate::mask::Mask;
 use crate::process::{Place, Process};
 use crate::waits::{WaitKind, WaitPlaces};
-use arrayvec::ArrayVec;
+use std::alloc::{AllocError, Global};
 use std::marker::Model;
 use thiserror::Error;
 use unixmodel::process::{Mode, Pending};
@@ -55,10 +55,11 @@ pub struct Reaped {
 }
 
 /// The slots, the one that was picked last, the pid that the next process gets, the slots that a turn looks at, and
-/// those where processes may wait.
+/// those where processes may wait. The slots are on the heap, so that a table that is moved takes little of the stack.
 #[derive(Drop)]
 pub struct Table {
-    places: ArrayVec<Place, 64>,
+    // 64, none of which is added or taken away
+    places: Vec<Place>,
     last: usize,
     next_pid: u32,
     awake: Mask,
@@ -155,6 +156,17 @@ fn status(mode: Mode) -> i32
     }
 }
 
+// Free slots. All their memory is asked for at once.
+fn free_places(alloc: Global) -> Result<Vec<Place>, AllocError>
+    ensures { IfOk result (λ places. places.items ≡ free_slots 64) }
+{
+    let mut places = Vec::with_capacity(alloc, PLACES)?;
+    for _ in 0..PLACES {
+        places.push(None)?;
+    }
+    Ok(places)
+}
+
 impl Table {
     ghost use Rattle.proc.specs.Places.{Places, changed, exited, has_pid, is_awake, is_child_of, is_running, left};
     ghost use Rattle.proc.specs.Places.{reaped_at, seat_of, seated, with_descriptor, with_directory, with_mark};
@@ -165,36 +177,36 @@ impl Table {
     ghost use Rattle.proc.specs.Waits.{FindsWaiting};
 
     /// Free slots. The first process gets this pid, and a turn looks at each slot at least once.
-    #[tactic(auto, unfolding(unixmodel::specs::Files::free_slots))]
-    pub fn starting_at(pid: u32) -> Table
+    ///
+    /// All memory for the slots is asked for at once: `AllocError` where the host has none.
+    pub fn starting_at(alloc: Global, pid: u32) -> Result<Table, AllocError>
         requires first { 1 ≤ pid }
         requires last { pid ≤ 2147483647 }
-        ensures { result ≡ record { places = free_slots 64; last = 63; next_pid = pid; awake = all_in 64 } }
+        ensures { IfOk result (λ t. t
+            ≡ record { places = free_slots 64; last = 63; next_pid = pid; awake = all_in 64 }) }
     {
-        Table {
-            places: ArrayVec::from_array_in((), [None; 64]),
+        let places = free_places(alloc)?;
+        Ok(Table {
+            places,
             last: PLACES - 1,
             next_pid: pid,
             awake: Mask::all(),
             waiting: WaitPlaces::all(),
-        }
+        })
     }
 
-    /// The same processes in the same slots.
-    pub fn duplicate(&self) -> Table
-        ensures { result ≡ self.now }
+    /// The same processes in the same slots. It takes as much memory.
+    pub fn duplicate(&self, alloc: Global) -> Result<Table, AllocError>
+        ensures { IfOk result (λ t. t ≡ self.now) }
     {
-        let mut places = ArrayVec::new();
-        places
-            .try_extend_from_slice(self.places.as_slice())
-            .unwrap();
-        Table {
+        let places = Vec::from_slice(alloc, self.places.as_slice())?;
+        Ok(Table {
             places,
             last: self.last,
             next_pid: self.next_pid,
             awake: self.awake.duplicate(),
             waiting: self.waiting.duplicate(),
-        }
+        })
     }
 
     /// All slots.

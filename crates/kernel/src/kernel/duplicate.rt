@@ -19,11 +19,14 @@ impl<D: Duplicate, T: Translate> Kernel<D, T> {
     ) -> Result<Kernel<D, U>, NoMemory>
         ensures { IfOk result (λ kernel. kernel ≡ self.now) }
     {
+        let Ok(table) = self.table.duplicate(alloc) else {
+            return Err(NoMemory);
+        };
         let spaces = self.spaces.duplicate(alloc, translator)?;
         match self.tree.duplicate(alloc) {
             Ok(tree) => Ok(Kernel {
                 tree,
-                table: self.table.duplicate(),
+                table,
                 spaces,
                 files: self.files.duplicate(),
                 console: self.console.duplicate(),

@@ -1,9 +1,12 @@
-use Rattle.std.proofs.Common.{Bool, List, [], arith, false, refl, rules, suc, sym, true, zero, ℕ, ◌==◌, ◌∙◌, ◌∷◌, ◌≡◌}
-use Rattle.std.specs.Prelude.{slice_set}
+use Rattle.std.proofs.Common.{Bool, List, [], arith, false, refl, rules, subst, suc, sym, true, zero, ℕ, ◌==◌, ◌∙◌}
+use Rattle.std.proofs.Common.{◌∷◌, ◌≡◌}
+use Rattle.std.specs.Prelude.{IfOk, slice_set}
 use Rattle.std.proofs.lemmas.Bool.{true≢false}
 use Rattle.std.proofs.lemmas.Bool.Decides.{nat_tests}
 use Rattle.proc.proofs.Waiting.{all-in}
 use Rattle.proc.specs.Mask.{all_in, is_in}
+use Rattle.proc.specs.Places.{Places}
+use Rattle.unixmodel.specs.Files.{free_slots}
 use Rattle.kernel_tests.proofs.processes.looks_at_who_is_awake.Goals as goal
 
 is-woken : (awake : List Bool) → is_in (slice_set awake 1 true) 1 ≡ true
@@ -17,10 +20,15 @@ asleep-other awake zero out = refl
 asleep-other awake (suc zero) out = absurd (true≢false (sym (is-woken awake) ∙ out))
 asleep-other awake (suc (suc i)) out = grind (arith, nat_tests)
 
+-- a table whose slots are free, of which each is awake
+abbrev IsFresh : Places → Type 0
+IsFresh t = t ≡ record { places = free_slots 64; last = 63; next_pid = 1; awake = all_in 64 }
+
 -- each slot is awake at first
 pub pick-requires-clause-awake : goal.pick-requires-clause-awake
 pick-requires-clause-awake g c i out =
-    let all : c.starting_at-table.result.awake ≡ all_in 64 = rw c.starting_at-table.ensures refl in
+    let fresh = subst (λ r. IfOk r IsFresh) c.expect-table.ensures c.starting_at.ensures in
+    let all : c.expect-table.result.awake ≡ all_in 64 = rw fresh refl in
     absurd (true≢false (sym (rw all (all-in 64 i)) ∙ out))
 
 pub pick-requires-2-clause-awake : goal.pick-requires-2-clause-awake

@@ -11,14 +11,14 @@ pub returns-then-not-load-clause-no_init : goal.returns-then-not-load-clause-no_
 returns-then-not-load-clause-no_init g c =
     λ is. start-over c.args.bytes.now c.args.frames (rw (frames-of c.in-Ok.ensures) at c.if-not-load.ensures)
 
-pub first_table-table-requires : goal.first_table-table-requires
-first_table-table-requires g c =
+pub first_table-requires : goal.first_table-requires
+first_table-requires g c =
     omega (arith, flat-size c.args.bytes.now c.size.ensures c.if-not-load.ensures.0, length-flat c.args.bytes.now)
 
 pub new-kernel-requires : goal.new-kernel-requires
 new-kernel-requires g c =
     rw (
-      c.first_table-table.ensures,
+      c.in-Ok-first_table.ensures,
       c.first_files.ensures,
       c.hold-2.ensures,
       c.hold.ensures,
@@ -37,7 +37,7 @@ returns-clause-booted g c =
     let size = flat-size bytes c.size.ensures c.if-not-load.ensures.0 in
     let kernel : c.new-kernel.result ≡ first_kernel c.args.tree c.args.frames (flat_space bytes) = c.new-kernel.ensures
     ∙ rw (
-      c.first_table-table.ensures,
+      c.in-Ok-first_table.ensures,
       c.first_files.ensures,
       c.hold-2.ensures,
       c.hold.ensures,

@@ -7,15 +7,15 @@ pub new-kernel-requires : goal.new-kernel-requires
 new-kernel-requires g c = record {
   sound = kernel-sound c.requires.unheld c.in-Ok-Some.ensures.serves.told c.is_whole.ensures c.in-Ok.spaces
       c.put_init.new.spaces (frames-of c.in-Ok.ensures) c.in-Ok-Some.field-0-is c.in-Ok-Some.ensures.put c.hold.ensures
-      c.first_table-table.ensures c.new-files.ensures;
-  watched = rw c.first_table-table.ensures (watched-all 64);
+      c.in-Ok-first_table.ensures c.new-files.ensures;
+  watched = rw c.in-Ok-first_table.ensures (watched-all 64);
 }
 
-pub returns-in-Ok-Some-clause-begun : goal.returns-in-Ok-Some-clause-begun
-returns-in-Ok-Some-clause-begun g c =
+pub returns-in-Ok-first_table-clause-begun : goal.returns-in-Ok-first_table-clause-begun
+returns-in-Ok-first_table-clause-begun g c =
     begun-init c.requires.unheld c.in-Ok-Some.ensures.serves.told c.is_whole.ensures c.in-Ok.spaces
     c.put_init.new.spaces (frames-of c.in-Ok.ensures) c.in-Ok-Some.field-0-is c.in-Ok-Some.ensures.put
-    c.hold.ensures c.first_table-table.ensures c.new-files.ensures
+    c.hold.ensures c.in-Ok-first_table.ensures c.new-files.ensures
     c.new-kernel.ensures c.new-machine.ensures c.in-Ok-Some.ensures.serves.cause.later
 
 pub returns-in-Ok-None-clause-refused : goal.returns-in-Ok-None-clause-refused

@@ -4,6 +4,6 @@ use Rattle.machine.proofs.Common.{all_in, ap, arith, bare_of, first_of, seat_of,
 
 pub returns : goal.returns
 returns c =
-    let seat = ap seat_of c.starting_at-table.ensures ∙ seat_of-first 63 1 (all_in 64) (omega arith) in
-    rw (c.alloc-seat.ensures.seat, seat, c.first.ensures, c.starting_at-table.ensures) at c.alloc-seat.ensures.ok
+    let seat = ap seat_of c.in_ok-table.ensures ∙ seat_of-first 63 1 (all_in 64) (omega arith) in
+    rw (c.alloc-seat.ensures.seat, seat, c.first.ensures, c.in_ok-table.ensures) at c.alloc-seat.ensures.ok
     ∙ one-seated (first_of (bare_of c.args.init.now))

@@ -13,16 +13,17 @@ pub returns-in-Behind-clause-step : goal.returns-in-Behind-clause-step
 returns-in-Behind-clause-step g c =
     let found = c.in-Some.ensures.word in
     step-done _ found.0 found.1 c.fetch.ensures.kept
-    (acts-worded _ found.0 c.flatten.ensures found.2 c.in-Behind.ensures) (refl, refl, refl)
+    (acts-worded _ found.0 c.flatten.ensures found.2 (rw c.of.ensures at c.in-Behind.ensures)) (refl, refl, refl)
 
 pub returns-in-At-clause-step : goal.returns-in-At-clause-step
 returns-in-At-clause-step g c =
     let found = c.in-Some.ensures.word in
-    step-done _ found.0 found.1 c.fetch.ensures.kept (acts-worded _ found.0 c.flatten.ensures found.2 c.in-At.ensures)
+    step-done _ found.0 found.1 c.fetch.ensures.kept
+    (acts-worded _ found.0 c.flatten.ensures found.2 (rw c.of.ensures at c.in-At.ensures))
     (refl, c.address-self.ensures.is, refl)
 
 pub returns-in-Stop-clause-step : goal.returns-in-Stop-clause-step
 returns-in-Stop-clause-step g c =
     let found = c.in-Some.ensures.word in
     step-done _ found.0 found.1 c.fetch.ensures.kept
-    (acts-worded _ found.0 c.flatten.ensures found.2 c.in-Stop.ensures) refl
+    (acts-worded _ found.0 c.flatten.ensures found.2 (rw c.of.ensures at c.in-Stop.ensures)) refl

@@ -8,5 +8,4 @@ returns g c =
     let k = c.args.k in
     let word : c.load_u32.result ≡ word_in c.args.ram.now c.args.f.0 (pc_at base k) = c.load_u32.ensures
     ∙ word-at _ _ k c.requires.page (omega (arith, c.ranges.base.fits)) c.requires.place in
-    acts-worded _ _
-    c.op.ensures (c.read.ensures ∙ word) c.act.ensures
+    acts-worded _ _ c.op.ensures word c.act.ensures

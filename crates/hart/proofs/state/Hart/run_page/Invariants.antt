@@ -1,12 +1,13 @@
-use Rattle.std.proofs.Common.{◌≡◌, ◌%◌}
+use Rattle.std.proofs.Common.{◌*◌, ◌+◌, ◌-◌, ◌/◌, ◌<◌, ◌≤◌}
+use Rattle.hart.proofs.Common.{pc_at}
 use Rattle.hart.proofs.Straight.{GoesLeft}
 use Rattle.hart.proofs.state.Hart.run_page.Given as goal
 
-abbrev pub invariant-loop-left : goal.invariant-loop-left
-invariant-loop-left g l =
+abbrev pub invariant-loop-k : goal.invariant-loop-k
+invariant-loop-k g l =
     GoesLeft (g.T.Translate.held l.fn.trans) (g.T.Translate.held l.trans) (g.S.Stops.addresses l.stops) l.fn.self
-    l.self l.pc l.fn.ram l.ram l.count l.left l.f.0
-    × (l.pc % 4 ≡ 0)
+    l.self (pc_at (l.fn.self.pc / 4096 * 4096) l.k) l.fn.ram l.ram l.count (l.limit - l.k) l.f.0
+    × (l.k < 1024) × (l.k ≤ l.limit) × (l.limit ≤ l.k + l.count)
 
-abbrev pub decreases-loop-left : goal.decreases-loop-left
-decreases-loop-left g l = l.left
+abbrev pub decreases-loop-k : goal.decreases-loop-k
+decreases-loop-k g l = l.limit - l.k
