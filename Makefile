@@ -260,6 +260,19 @@ live-c: user-c | program
 	$(MAKE) -C user-c ../$(IMAGE_C) XV6=$(abspath $(PROGRAM))
 	@$(if $(wildcard out/user-c/*.elf),SYMBOLS=out/user-c) tools/live.sh $(PROGRAM) $(IMAGE_C) out/last.script
 
+# gdb over a run, whose processes it debugs forward and back: docs/DEBUG.md. What happens is in SCRIPT=FILE.
+# Another image than that of user-c, and the folder of its NAME.elf: make gdb RUN=.. SYMBOLS=..
+.PHONY: gdb check-gdb
+gdb: $(if $(RUN),,user-c) | program
+	$(if $(RUN),,$(MAKE) -C user-c ../$(IMAGE_C) XV6=$(abspath $(PROGRAM)) && $(MAKE) -C user-c $(notdir $(patsubst %.c,%.elf,$(wildcard user-c/*.c))))
+	tools/gdb.sh $(PROGRAM) $(or $(RUN),$(IMAGE_C)) '$(or $(SYMBOLS),$(if $(RUN),,out/user-c))' $(SCRIPT)
+
+# Debugs small programs in C by scripts of gdb and lldb, and compares what they print; then 200 random runs, and times from both sides.
+# It needs Debian's packages gdb-multiarch and gcc-riscv64-unknown-elf; what is for lldb is left out where there is none.
+check-gdb: | program
+	trials/gdb/check.py $(PROGRAM)
+	trials/gdb/agree.py $(PROGRAM)
+
 # Compiles them by gcc and clang, and tries them beside the programs in assembly.
 # selftest passes at each pace of a clock, and the file that the gate runs is what the compiler gives. It needs Debian's packages
 # gcc-riscv64-unknown-elf, clang and lld.

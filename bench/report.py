@@ -83,6 +83,18 @@ def looking_on(place):
     return text + table(["by", "seconds", "ratio"], lines)
 
 
+# ---- a debugger
+
+
+def debugging(place):
+    """What a machine under a debugger takes, forward and back."""
+    script = TOP / "trials" / "gdb" / "measure.py"
+    ran = subprocess.run([sys.executable, script, place.xv6], stdout=subprocess.PIPE, text=True)
+    if ran.returncode != 0:
+        raise Failed("trials/gdb/measure.py: it needs gcc-riscv64-unknown-elf")
+    return ran.stdout.rstrip("\n")
+
+
 # ---- units
 
 
@@ -340,7 +352,7 @@ def main():
     first = None
     with tempfile.TemporaryDirectory() as folder:
         place = compile_plain(Place(pathlib.Path(folder), given.program.resolve()))
-        makers = {"Steps": lambda: steps(place), "Looking on": lambda: looking_on(place),
+        makers = {"Steps": lambda: steps(place), "Looking on": lambda: looking_on(place), "Debugging": lambda: debugging(place),
                   "Calls and other units": lambda: units(place), "Tools": lambda: tools(place),
                   "Sizes": lambda: library(place), "Lines": lambda: counted, "Gate and build": lambda: noted_text}
         parts = {}

@@ -2,7 +2,7 @@
 # live.sh PROGRAM IMAGE RECORD [START]: a session at the shell of an image. A terminal is set so that each read of it ends after a tenth
 # of a second, and is set back exactly, however the session ends; a signal to this script alone ends the session, too.
 # With START the session leaves its files on IMAGE; START is the image as it was before, from which RECORD gives the same session again.
-# With SYMBOLS in the environment faults have the names of the files in that directory.
+# With SYMBOLS in the environment faults have the names of the files in that directory; with EDIT a typed line is edited first.
 program=$1 image=$2 record=$3 start=${4:-}
 set -- "$image"
 if [ -n "$start" ]; then
@@ -11,6 +11,7 @@ if [ -n "$start" ]; then
     set -- --save "$image" "$start"
 fi
 [ -z "${SYMBOLS:-}" ] || set -- --symbols "$SYMBOLS" "$@"
+[ -z "${EDIT:-}" ] || set -- --edit "$@"
 [ -t 0 ] || exec "$program" live --frames 4096 --record "$record" "$@"
 
 # Ends the session by a signal, and this script with a status.

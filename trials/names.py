@@ -3,8 +3,9 @@
 
     names.py XV6 [--keep DIR]
 
-Programs of user-c/ and examples/c are compiled by gcc and by clang, with line numbers of DWARF 4 and 5. Files and lines
-are compared with `addr2line` of both, functions with the symbol table that `readelf` prints.
+Programs of user-c/ and examples/c are compiled by gcc and by clang, with line numbers of DWARF 4 and 5, and texts of
+examples/assembly assembled by `xv6 as -g`. Files and lines are compared with `addr2line` of both, functions with the
+symbol table that `readelf` prints. What `objdump -dl` and `readelf` print of a program of `xv6 as -g` has no warning.
 It needs Debian's gcc-riscv64-unknown-elf, clang, lld and llvm.
 """
 import argparse
@@ -58,6 +59,26 @@ def compile_all(folder):
             run(compiler + MACHINE + ["-w"] + LINK + ["-T", ROOT / "examples/c/program.ld", ROOT / "examples/c/start.S",
                 ROOT / f"examples/c/{program}.c", "-o", out])
             yield out
+
+
+def assemble_all(xv6, folder):
+    """Yields the file of each text of examples/assembly, which binutils read without a warning."""
+    for text in sorted((ROOT / "examples/assembly").glob("*.s")):
+        if text.stem == "lib":
+            continue
+        out = folder / f"{text.stem}-as"
+        run([xv6, "as", "-g", text, "-o", out])
+        for words in ["objdump", "-dl"], ["readelf", "-SsW"], ["readelf", "--debug-dump=decodedline"]:
+            words[0] = BINUTILS + words[0]
+            done = subprocess.run([*words, out], check=True, capture_output=True, text=True)
+            if done.stderr:
+                sys.exit(f"{out.name}: {' '.join(words)}: {done.stderr}")
+        yield out
+
+
+def programs_of(xv6, folder):
+    yield from assemble_all(xv6, folder)
+    yield from compile_all(folder)
 
 
 def symbols(program):
@@ -173,7 +194,7 @@ def main():
         folder = words.keep or Path(made)
         folder.mkdir(parents=True, exist_ok=True)
         programs = instructions = faults = 0
-        for program in compile_all(folder):
+        for program in programs_of(words.xv6.resolve(), folder):
             count, fault = compare(words.xv6.resolve(), program)
             programs += 1
             instructions += count

@@ -1,8 +1,9 @@
 #!/usr/bin/env python3
 """terminal.py PROGRAM IMAGE: sessions at a pseudo-terminal, as `make live` has them: ^A x, ^C, keys while a program spins, lines that
-come slowly, a program that crashes, a terminal that is closed, input from a pipe, and standard input that gives errors or doesn't wait. The terminal is set back exactly, and each record replays to the same console."""
+come slowly, a program that crashes, lines that are edited, a terminal that is closed, input from a pipe, and standard input that gives errors or doesn't wait. The terminal is set back exactly, and each record replays to the same console."""
 import os
 import pty
+import re
 import select
 import shutil
 import signal
@@ -73,7 +74,7 @@ def symbol_file(name, size):
 class Session:
     """A session at a pseudo-terminal of its own."""
 
-    def __init__(self, folder, image, start=None, symbols=None):
+    def __init__(self, folder, image, start=None, symbols=None, edits=False):
         self.image = start or image
         self.record, self.told = os.path.join(folder, "record"), os.path.join(folder, "told")
         self.console = b""
@@ -82,8 +83,8 @@ class Session:
         with open(self.told, "wb") as told:
             self.child = subprocess.Popen(
                 [os.path.join(TOP, "tools", "live.sh"), PROGRAM, image, self.record, *([start] if start else [])],
-                stdin=self.follow, stdout=self.follow, stderr=self.follow if symbols else told, preexec_fn=self.own_terminal,
-                env={**os.environ, "SYMBOLS": symbols or ""},
+                stdin=self.follow, stdout=self.follow, stderr=self.follow if symbols or edits else told, preexec_fn=self.own_terminal,
+                env={**os.environ, "SYMBOLS": symbols or "", "EDIT": "1" if edits else ""},
             )
 
     def own_terminal(self):
@@ -122,6 +123,22 @@ class Session:
         done = subprocess.run([PROGRAM, "run", *FRAMES, self.image, self.record], capture_output=True)
         assert self.console.startswith(done.stdout), (done.stdout, self.console)
         return done.stdout
+
+
+def screen(console):
+    """What a terminal shows of bytes that move the cursor back in its line, and blank the line from the cursor on."""
+    lines, column = [b""], 0
+    for part in re.findall(rb"\x1b\[K|.", console, re.DOTALL):
+        line = lines[-1]
+        if part == b"\n":
+            lines, column = lines + [b""], 0
+        elif part == b"\b":
+            column -= 1
+        elif part == b"\x1b[K":
+            lines[-1] = line[:column]
+        else:
+            lines[-1], column = line[:column] + part + line[column + 1:], column + 1
+    return b"\n".join(lines)
 
 
 def with_program(folder, name, text):
@@ -305,6 +322,20 @@ def crash(folder):
     assert session.replay().endswith(b"$ crash\n$ "), session.console
 
 
+def edit(folder):
+    """Keys edit a line before the machine gets it; the record has the finished lines alone."""
+    session = Session(folder, IMAGE, edits=True)
+    session.until(b"$ ")
+    session.type(b"echo x one\x1b[D\x1b[D\x1b[D\x1b[D\x7ftwo\x1b[F three\x17\x1b[Hx\x7f\r")
+    session.until(b"\ntwo one\n$ ")
+    session.type(b"\x1b[A\x1b[D\x17end\r")
+    session.until(b"\ntwo end\n$ ")
+    session.type(b"lost\x01x")
+    session.ends(0)
+    session.console = screen(session.console)
+    assert session.replay().endswith(b"$ echo two one \ntwo one\n$ echo two end \ntwo end\n$ "), session.console
+
+
 def pipe(folder):
     record = os.path.join(folder, "record")
     done = subprocess.run([PROGRAM, "live", "--record", record, IMAGE], input=b"echo hi | cat\n", capture_output=True)
@@ -319,7 +350,7 @@ def pipe(folder):
     assert (lost.returncode, lost.stderr) == (1, b"halt 3 Console\n"), lost
 
 
-for part in (leave, keep, kill, terminate, spin, slow, crash, close, hang_up, pipe, errors):
+for part in (leave, keep, kill, terminate, spin, slow, crash, edit, close, hang_up, pipe, errors):
     with tempfile.TemporaryDirectory() as place:
         part(place)
     print(part.__name__, "ok", flush=True)

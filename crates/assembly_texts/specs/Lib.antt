@@ -1,1 +1,2 @@
+pub mod Debugged
 pub mod Told

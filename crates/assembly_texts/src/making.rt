@@ -2,7 +2,9 @@
 ghost use Rattle.std.specs.Prelude.{◌≡◌, IfOk, Ok};
 ghost use Rattle.std.specs.String.{string_bytes};
 ghost use Rattle.unixmodel.specs.Assembly as the;
+ghost use Rattle.assembly_texts.specs.Debugged.{IsDebugged};
 
+use crate::debugging::with_lines;
 use asm::{AsmFault, AsmKind, assemble};
 use gas::{Expanded, Expansion, Fault, Position, Program, expand};
 use std::alloc::{AllocError, Global};
@@ -69,4 +71,24 @@ pub fn make(alloc: Global, program: &Program) -> Result<Made, Unmade>
         Expansion::Text(expanded) => assembled(alloc, expanded),
         Expansion::Faults(faults) => Err(Unmade::Faults(faults)),
     }
+}
+
+/// The file of a program with what a debugger is given after it: the labels, and the lines of the texts.
+pub fn make_with_lines(alloc: Global, program: &Program) -> Result<Made, Unmade>
+    ensures { IfOk result (λ made. IsDebugged (string_bytes made.text) made.file.items) }
+{
+    let made = make(alloc, program)?;
+    let file = with_lines(alloc, program, &made)?;
+    let Made {
+        text,
+        file: _plain,
+        rows,
+        passed,
+    } = made;
+    Ok(Made {
+        text,
+        file,
+        rows,
+        passed,
+    })
 }

@@ -1,6 +1,6 @@
 -- The command line that the program declares, and what a job says of it.
 use Rattle.std.specs.Prelude.{◌≡◌, ◌↔◌, IsTrue, Bool, ℕ, pos, List, [], ◌∷◌, None, Option, Some, true, false, codes}
-use Rattle.std.specs.Prelude.{fold, map, option_map, slice_get}
+use Rattle.std.specs.Prelude.{fold, option_map, slice_get}
 use Rattle.std.specs.Borrow.{Bor}
 use Rattle.std.specs.Int.NonZero.{non_zero_u64_get}
 use Rattle.std.specs.Str.Parse.{IsNumeral, digits_value}
@@ -21,6 +21,7 @@ use Rattle.commandline.specs.declared.jobs.Check.{Check}
 use Rattle.commandline.specs.declared.jobs.Dump.{Dump}
 use Rattle.commandline.specs.declared.jobs.Files.{Files}
 use Rattle.commandline.specs.declared.jobs.Flat.{Flat}
+use Rattle.commandline.specs.declared.jobs.Gdb.{Gdb}
 use Rattle.commandline.specs.declared.jobs.Job.{Job}
 use Rattle.commandline.specs.declared.jobs.Job.TheVariants as job
 use Rattle.commandline.specs.declared.jobs.Live.{Live}
@@ -135,12 +136,12 @@ declared_flat = with_bare
 abbrev pub declared_run : App
 declared_run = with_bare (with_bare (run_options (new_app (codes "run"))) (codes "IMAGE")) (codes "SCRIPT")
 
--- live [--frames N] [--quantum N] [--record SCRIPT] [--save OUT] [--terminal] [--symbols DIR] IMAGE
+-- live [--frames N] [--quantum N] [--record SCRIPT] [--save OUT] [--terminal] [--edit] [--symbols DIR] IMAGE
 abbrev pub declared_live : App
 declared_live =
-    with_bare (named_options (with_rule (with_rule (with_rule (with_rule (with_rule (new_app (codes "live"))
+    with_bare (named_options (with_rule (with_rule (with_rule (with_rule (with_rule (with_rule (new_app (codes "live"))
     (number_rule (codes "frames") (codes "256"))) (several_rule (codes "quantum"))) (option_rule (codes "record")))
-    (option_rule (codes "save"))) (flag_rule (codes "terminal")))) (codes "IMAGE")
+    (option_rule (codes "save"))) (flag_rule (codes "terminal"))) (flag_rule (codes "edit")))) (codes "IMAGE")
 
 -- play [..] [--script OUT] IMAGE PLAY
 abbrev pub declared_play : App
@@ -169,6 +170,14 @@ declared_trace =
     (option_rule (codes "text"))) (option_rule (codes "perfetto"))) (option_rule (codes "commits")))
     (flag_rule (codes "core-is-pid")))
     (option_rule (codes "jsonl"))) (flag_rule (codes "play"))) (codes "IMAGE")) (codes "SCRIPT")
+
+-- gdb [--frames N] [--memory MB] [--record SCRIPT] [--init] [--symbols DIR] [IMAGE] [SCRIPT]
+abbrev pub declared_gdb : App
+declared_gdb =
+    with_rule (with_rule (named_options (with_rule (with_rule (with_rule (with_rule (new_app (codes "gdb"))
+    (number_rule (codes "frames") (codes "256"))) (number_rule (codes "memory") (codes "1024")))
+    (option_rule (codes "record"))) (flag_rule (codes "init")))) (last_rule (codes "IMAGE")))
+    (last_rule (codes "SCRIPT"))
 
 -- mkfs [--size N] [--inodes N] MANIFEST IMAGE
 abbrev pub declared_mkfs : App
@@ -204,11 +213,12 @@ declared_migrate = with_bare (with_bare (explained (new_app (codes "migrate"))) 
 abbrev pub declared_asm : App
 declared_asm = with_bare (with_bare (explained (new_app (codes "asm"))) (codes "TEXT")) (codes "ELF")
 
--- as [-o OUT] [--expand] [-v] FILE..
+-- as [-o OUT] [--expand] [-g] [-v] FILE..
 abbrev pub declared_as : App
 declared_as =
-    with_rule (explained (with_rule (with_rule (with_rule (new_app (codes "as"))
-    (short_rule (codes "out") 111)) (flag_rule (codes "expand"))) (letter_rule (codes "verbose") 118)))
+    with_rule (explained (with_rule (with_rule (with_rule (with_rule (new_app (codes "as"))
+    (short_rule (codes "out") 111)) (flag_rule (codes "expand"))) (letter_rule (codes "debug") 103))
+    (letter_rule (codes "verbose") 118)))
     (each_rule (codes "FILE"))
 
 -- dump [--names] ELF
@@ -225,8 +235,8 @@ declared_top = record (new_app (codes "xv6")) {
 -- what boots a machine
 abbrev pub with_machines : App → App
 with_machines app =
-    with_subcommand (with_subcommand (with_subcommand (with_subcommand (with_subcommand app
-    declared_flat.top) declared_run.top) declared_live.top) declared_play.top) declared_trace.top
+    with_subcommand (with_subcommand (with_subcommand (with_subcommand (with_subcommand (with_subcommand app
+    declared_flat.top) declared_run.top) declared_live.top) declared_play.top) declared_trace.top) declared_gdb.top
 
 -- what works on disk images
 abbrev pub with_images : App → App
@@ -347,6 +357,14 @@ pub record IsTrace (found : List Row) (trace : Trace) : Type 0 where
   pub jsonl : IsOption (codes "jsonl") found trace.jsonl
   pub play : IsFlag (codes "play") found trace.play
 
+pub record IsGdb (found : List Row) (gdb : Gdb) : Type 0 where
+  pub frames : IsWritten (codes "frames") found gdb.frames
+  pub memory : IsWritten (codes "memory") found gdb.memory
+  pub recorded : IsOption (codes "record") found gdb.recorded
+  pub symbols : IsOption (codes "symbols") found gdb.symbols
+  pub image : first_of (codes "IMAGE") found ≡ Some gdb.image.now
+  pub script : IsOption (codes "SCRIPT") found gdb.script
+
 pub record IsMkfs (found : List Row) (mkfs : Mkfs) : Type 0 where
   pub size : IsWritten (codes "size") found mkfs.size
   pub inodes : IsWritten (codes "inodes") found mkfs.inodes
@@ -400,6 +418,7 @@ pub record IsAs (found : List Row) (as_job : As) : Type 0 where
   pub texts : AreFirst (codes "FILE") found as_job.texts
   pub out : IsOption (codes "out") found as_job.out
   pub expand : IsFlag (codes "expand") found as_job.expand
+  pub debug : IsFlag (codes "debug") found as_job.debug
   pub verbose : IsFlag (codes "verbose") found as_job.verbose
 
 pub record IsDump (found : List Row) (dump : Dump) : Type 0 where
@@ -412,6 +431,7 @@ pub record IsLive (found : List Row) (live : Live) : Type 0 where
   pub script : IsOption (codes "record") found live.script
   pub save : IsOption (codes "save") found live.save
   pub terminal : IsFlag (codes "terminal") found live.terminal
+  pub edit : IsFlag (codes "edit") found live.edit
   pub symbols : IsOption (codes "symbols") found live.symbols
   pub image : first_of (codes "IMAGE") found ≡ Some live.image.now
 
@@ -421,6 +441,9 @@ IsJob found (job.Flat flat) = (rows : List Row) × (found ≡ Some (codes "flat"
 IsJob found (job.Run run) = (rows : List Row) × (found ≡ Some (codes "run", rows)) × IsRun (codes "SCRIPT") rows run
 IsJob found (job.Play play) = (rows : List Row) × (found ≡ Some (codes "play", rows)) × IsPlay rows play
 IsJob found (job.Trace trace) = (rows : List Row) × (found ≡ Some (codes "trace", rows)) × IsTrace rows trace
+IsJob found (job.Gdb gdb) = (rows : List Row) × (found ≡ Some (codes "gdb", rows))
+    × IsFlag (codes "init") rows false × IsGdb rows gdb
+IsJob found job.GdbInit = (rows : List Row) × (found ≡ Some (codes "gdb", rows)) × IsFlag (codes "init") rows true
 IsJob found (job.Mkfs mkfs) = (rows : List Row) × (found ≡ Some (codes "mkfs", rows)) × IsMkfs rows mkfs
 IsJob found (job.Check check) = (rows : List Row) × (found ≡ Some (codes "check", rows)) × IsCheck rows check
 IsJob found (job.Ls ls) = (rows : List Row) × (found ≡ Some (codes "ls", rows)) × IsLs rows ls

@@ -22,6 +22,7 @@ outputs_of (job.Get get) = one_of get.out
 outputs_of (job.Play play) = play.run.telling.json ∷ play.script ∷ None ∷ None ∷ None ∷ []
 outputs_of (job.Trace trace) =
     trace.run.telling.json ∷ trace.text ∷ trace.jsonl ∷ trace.perfetto ∷ trace.commits ∷ []
+outputs_of (job.Gdb gdb) = one_of gdb.recorded
 outputs_of _ = one_of None
 
 abbrev pub others_of_run : Run → List Name
@@ -35,4 +36,5 @@ others_of (job.Live live) = Some live.image ∷ live.save ∷ None ∷ []
 others_of (job.Get get) = Some get.image ∷ None ∷ None ∷ []
 others_of (job.Play play) = others_of_run play.run
 others_of (job.Trace trace) = others_of_run trace.run
+others_of (job.Gdb gdb) = Some gdb.image ∷ gdb.script ∷ None ∷ []
 others_of _ = None ∷ None ∷ None ∷ []

@@ -2,15 +2,15 @@
 ghost use Rattle.std.specs.Prelude.{◌≡◌, ◌↔◌, IfOk, IfSome, IsTrue, Some, codes, false, fold, map, option_map};
 ghost use Rattle.std.specs.Prelude.{slice_get};
 ghost use Rattle.clap.specs.Words.{app_of, first_of, found_of, rows_of, rule_of, subcommand_of, subcommand_rows_of};
-ghost use Rattle.commandline.specs.Declarations.{AreFirst, DeclaresOwn, IsCount, IsJob, IsLines, IsPart, IsRun};
+ghost use Rattle.commandline.specs.Declarations.{AreFirst, DeclaresOwn, IsCount, IsGdb, IsJob, IsLines, IsPart, IsRun};
 ghost use Rattle.commandline.specs.Declarations.{IsTelling, IsWritten, Writes, declared, declared_by, declared_top};
 ghost use Rattle.commandline.specs.Declarations.{flag_rule, last_rule, named_rule, option_rule, rule_given};
 ghost use Rattle.commandline.specs.Declarations.{with_declared};
 
 use crate::declarations::{COMMANDS, Declared, EXAMPLE, Given, Word};
 use crate::jobs::{
-    As, Asm, Check, Dump, Files, Flat, Get, Job, Lines, Live, Ls, Migrate, Mkfs, Part, Play, Put,
-    Run, Telling, Trace,
+    As, Asm, Check, Dump, Files, Flat, Gdb, Get, Job, Lines, Live, Ls, Migrate, Mkfs, Part, Play,
+    Put, Run, Telling, Trace,
 };
 use clap::error::ErrorKind;
 use clap::{Arg, ArgAction, ArgMatches, Command, Error, value_parser};
@@ -375,6 +375,45 @@ fn trace<'a>(found: &ArgMatches<'a>) -> Option<Job<'a>>
     }))
 }
 
+// What the words ask for of a debugger's machine.
+fn gdb_found<'a>(found: &ArgMatches<'a>) -> Option<Gdb<'a>>
+    ensures { IfSome result (IsGdb (rows_of (found_of found.now))) }
+{
+    let Some(frames) = number_found(found, "frames") else {
+        return None;
+    };
+    let Some(memory) = number_found(found, "memory") else {
+        return None;
+    };
+    let recorded = option_found(found, "record");
+    let symbols = option_found(found, "symbols");
+    let Some(image) = word_found(found, "IMAGE") else {
+        return None;
+    };
+    let script = option_found(found, "SCRIPT");
+    Some(Gdb {
+        frames,
+        memory,
+        recorded,
+        symbols,
+        image,
+        script,
+    })
+}
+
+// What the words after `gdb` ask for.
+fn gdb<'a>(found: &ArgMatches<'a>) -> Option<Job<'a>>
+    ensures { IfSome result (IsJob (Some (codes "gdb", rows_of (found_of found.now)))) }
+{
+    if flag_found(found, "init") {
+        return Some(Job::GdbInit);
+    }
+    let Some(words) = gdb_found(found) else {
+        return None;
+    };
+    Some(Job::Gdb(words))
+}
+
 // What the words after `mkfs` ask for.
 fn mkfs<'a>(found: &ArgMatches<'a>) -> Option<Job<'a>>
     ensures { IfSome result (IsJob (Some (codes "mkfs", rows_of (found_of found.now)))) }
@@ -500,6 +539,7 @@ fn assemble<'a>(found: &ArgMatches<'a>) -> Option<Job<'a>>
 {
     let out = option_found(found, "out");
     let expand = flag_found(found, "expand");
+    let debug = flag_found(found, "debug");
     let verbose = flag_found(found, "verbose");
     let Some(texts) = files_found(found, "FILE") else {
         return None;
@@ -508,6 +548,7 @@ fn assemble<'a>(found: &ArgMatches<'a>) -> Option<Job<'a>>
         texts,
         out,
         expand,
+        debug,
         verbose,
     }))
 }
@@ -536,6 +577,7 @@ fn live<'a>(found: &ArgMatches<'a>) -> Option<Job<'a>>
     let script = option_found(found, "record");
     let save = option_found(found, "save");
     let terminal = flag_found(found, "terminal");
+    let edit = flag_found(found, "edit");
     let symbols = option_found(found, "symbols");
     let Some(image) = word_found(found, "IMAGE") else {
         return None;
@@ -546,6 +588,7 @@ fn live<'a>(found: &ArgMatches<'a>) -> Option<Job<'a>>
         script,
         save,
         terminal,
+        edit,
         symbols,
         image,
     }))
@@ -618,15 +661,34 @@ fn job_found<'a>(matches: &ArgMatches<'a>) -> Option<Job<'a>>
     if let Some(found) = matches.subcommand_matches("trace") {
         return trace(found);
     }
+    if let Some(found) = matches.subcommand_matches("gdb") {
+        return gdb(found);
+    }
     image_job(matches)
 }
 
-// Why the words are no job, where the command line let them pass: a number has a sign.
-fn signed<'a>(command: &mut Command<'a>) -> Error {
-    match command.error(
-        ErrorKind::ValueValidation,
-        "a number is written in digits alone",
-    ) {
+// Whether a debugger's machine was found that has no image.
+fn lacks_image<'a>(matches: &ArgMatches<'a>) -> bool {
+    match matches.subcommand_matches("gdb") {
+        Some(found) => !flag_found(found, "init") && option_found(found, "IMAGE").is_none(),
+        None => false,
+    }
+}
+
+// Why the words are no job, where the command line let them pass: a debugger has no image, or a number has a sign.
+fn refused<'a>(command: &mut Command<'a>, lacks_image: bool) -> Error {
+    let refused = if lacks_image {
+        command.error(
+            ErrorKind::MissingRequiredArgument,
+            "the command gdb needs an IMAGE, or --init",
+        )
+    } else {
+        command.error(
+            ErrorKind::ValueValidation,
+            "a number is written in digits alone",
+        )
+    };
+    match refused {
         Ok(error) => error,
         Err(error) => Error::from(error),
     }
@@ -640,7 +702,7 @@ fn job_read<'a>(command: &mut Command<'a>, words: &'a [&'a str]) -> Result<Job<'
     let matches = command.try_get_matches_from_mut(words)?;
     match job_found(&matches) {
         Some(job) => Ok(job),
-        None => Err(signed(command)),
+        None => Err(refused(command, lacks_image(&matches))),
     }
 }
 

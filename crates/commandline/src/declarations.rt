@@ -368,6 +368,37 @@ const PLAY: [Word<'static>; 16] = [
     },
 ];
 
+const GDB: [Word<'static>; 8] = [
+    FRAMES,
+    Word {
+        name: "memory",
+        given: Given::Number("1024"),
+        help: "Megabytes that copies of the machine take at most, by which one goes back faster",
+    },
+    Word {
+        name: "record",
+        given: Given::Option("OUT"),
+        help: "Where the script is written at the end that gives a machine the same events, with what was typed",
+    },
+    Word {
+        name: "init",
+        given: Given::Flag,
+        help: "Prints the lines that gdb needs before, for a course's .gdbinit, and does no more",
+    },
+    SYMBOLS,
+    EXPLAIN,
+    Word {
+        name: "IMAGE",
+        given: Given::Last,
+        help: "The image, which has a program /init",
+    },
+    Word {
+        name: "SCRIPT",
+        given: Given::Last,
+        help: "What happens, as `run` takes it: a million steps, if left out",
+    },
+];
+
 const MKFS: [Word<'static>; 5] = [
     Word {
         name: "size",
@@ -471,7 +502,7 @@ const ASM: [Word<'static>; 3] = [
     },
 ];
 
-const AS: [Word<'static>; 5] = [
+const AS: [Word<'static>; 6] = [
     Word {
         name: "out",
         given: Given::Short('o'),
@@ -481,6 +512,11 @@ const AS: [Word<'static>; 5] = [
         name: "expand",
         given: Given::Flag,
         help: "Prints the text that `xv6 asm` takes, and writes no file",
+    },
+    Word {
+        name: "debug",
+        given: Given::Letter('g'),
+        help: "Adds the labels and the lines of the texts, for debuggers and for the names of addresses",
     },
     Word {
         name: "verbose",
@@ -505,7 +541,7 @@ const DUMP: [Word<'static>; 3] = [
     PROGRAM_FILE,
 ];
 
-const LIVE: [Word<'static>; 8] = [
+const LIVE: [Word<'static>; 9] = [
     FRAMES,
     Word {
         name: "quantum",
@@ -523,12 +559,17 @@ const LIVE: [Word<'static>; 8] = [
         given: Given::Flag,
         help: "Standard input is a terminal whose read ends after a tenth of a second (make live): ^A x ends the session, ^P shows the processes",
     },
+    Word {
+        name: "edit",
+        given: Given::Flag,
+        help: "With --terminal, cursor keys, Home, End, Delete, ^W, ^U, ^K and a history edit a line before the machine gets its keys",
+    },
     SYMBOLS,
     EXPLAIN,
     BOOTED,
 ];
 
-pub(crate) const COMMANDS: [Declared<'static>; 14] = [
+pub(crate) const COMMANDS: [Declared<'static>; 15] = [
     Declared {
         name: "flat",
         about: "Boots a flat program and runs a script of events",
@@ -582,6 +623,27 @@ Example, the calls of forks and pipes alone, and the same run for a viewer of tr
 xv6 trace --calls fork,pipe,wait disk.img script.txt
 xv6 trace --perfetto trace.json disk.img script.txt",
         words: &TRACE,
+    },
+    Declared {
+        name: "gdb",
+        about: "Lets gdb debug the processes of a run, forward and back",
+        example: "\
+Example, at the prompt of gdb-multiarch, which begins the program itself and speaks to it through a pipe:
+
+    source lines.gdb
+    target extended-remote | xv6 gdb --symbols DIR disk.img script.txt
+    break count.c:7
+    continue
+    watch counter
+    reverse-continue
+
+The last goes back to the store that gave the counter its value. What gdb needs before is written by
+
+xv6 gdb --init > lines.gdb
+
+Registers and memory can't be written: what is debugged is what `xv6 run disk.img script.txt` does.
+`monitor help` says what else there is: ps, when, stop-at and type.",
+        words: &GDB,
     },
     Declared {
         name: "mkfs",
@@ -659,9 +721,11 @@ Example, where hello.s has sections, `la`, `call`, `li` of any number, `.asciz`,
 
 xv6 as hello.s
 xv6 as main.s lib.s -o program
+xv6 as -g oops.s
 xv6 as --expand hello.s
 
-The first writes the program's file hello, the last prints the text that `xv6 asm` takes. All that is
+The first writes the program's file hello, the third one with the lines of its text, for gdb and for
+`xv6 dump --names`; the last prints the text that `xv6 asm` takes. All that is
 wrong is printed at once, each fault as `hello.s:7:9: beqz takes a register and a label: beqz a0, done`.
 `.globl` lets another text use a label, and `.include \"lib.s\"` reads a text beside the one that names it.",
         words: &AS,

@@ -15,6 +15,10 @@ pub enum Job<'a> {
     Play(Play<'a>),
     /// Does as `Run`, and shows what each process does.
     Trace(Trace<'a>),
+    /// Boots a machine from a disk image for a debugger at standard input and output.
+    Gdb(Gdb<'a>),
+    /// Prints what a debugger's own commands have to set before.
+    GdbInit,
     /// Makes a disk image.
     Mkfs(Mkfs<'a>),
     /// Checks a disk image.
@@ -148,6 +152,23 @@ pub struct Trace<'a> {
     pub jsonl: Option<&'a str>,
 }
 
+/// The words of the command `gdb`.
+#[derive(Clone, Copy, PartialEq, Eq)]
+pub struct Gdb<'a> {
+    /// How many frames the memory has.
+    pub frames: u32,
+    /// How many megabytes the copies of the machine take at most, from which it goes back.
+    pub memory: u32,
+    /// The name of the file to which the script is written that has what was typed, where one is.
+    pub recorded: Option<&'a str>,
+    /// The name of the directory that has programs' files with symbols, where there is one.
+    pub symbols: Option<&'a str>,
+    /// The name of the image's file.
+    pub image: &'a str,
+    /// The name of the script's file, where there is one.
+    pub script: Option<&'a str>,
+}
+
 /// The words of the command `mkfs`.
 #[derive(Clone, Copy, PartialEq, Eq)]
 pub struct Mkfs<'a> {
@@ -241,6 +262,8 @@ pub struct As<'a> {
     pub out: Option<&'a str>,
     /// Whether the text in the language of `asm` is printed, and no file written.
     pub expand: bool,
+    /// Whether the file has the labels and the lines of the texts.
+    pub debug: bool,
     /// Whether directives that have no effect are reported.
     pub verbose: bool,
 }
@@ -267,6 +290,8 @@ pub struct Live<'a> {
     pub save: Option<&'a str>,
     /// Whether standard input is a terminal, on which a read of nothing means that no key came for a while.
     pub terminal: bool,
+    /// Whether a typed line is edited at the terminal before the machine gets its keys.
+    pub edit: bool,
     /// The name of the directory that has programs' files with symbols, where there is one.
     pub symbols: Option<&'a str>,
     /// The name of the image's file.

@@ -64,6 +64,10 @@ pub fn names_of<'a>(job: &Job<'a>) -> Names<'a>
             ],
             others: others_of_run(&words.run),
         },
+        Job::Gdb(words) => Names {
+            outputs: one(words.recorded),
+            others: [Some(words.image), words.script, None],
+        },
         _ => Names {
             outputs: one(None),
             others: [None, None, None],

@@ -118,6 +118,8 @@ fn perform_on<H: Host, S: Screen, W: Write, E: Write>(
         Job::Live(words) => sessions::perform(alloc, words, host, meter, stdout, stderr),
         Job::Play(words) => plays::perform(alloc, words, host, meter, stdout, stderr),
         Job::Trace(words) => tracing::perform(alloc, words, host, meter, stdout, stderr),
+        Job::Gdb(words) => gdb_command::perform(alloc, words, host, stdout, stderr),
+        Job::GdbInit => gdb_command::print_init_lines(stdout, stderr),
         Job::Get(words) => perform_quietly(openings::get(alloc, words, host, stdout), stderr),
         Job::Put(words) => perform_quietly(openings::put(alloc, words, host), stderr),
     }

@@ -1,6 +1,8 @@
 //! Assembles texts that are written for other assemblers.
 
-use assembly_texts::{File, MOST_BYTES, Made, Program, Reporter, Sources, make};
+use assembly_texts::{
+    File, MOST_BYTES, Made, Program, Reporter, Sources, Unmade, make, make_with_lines,
+};
 use commandline::{As, Files};
 use hosts::{Failure, Host, read_front, write};
 use std::alloc::{AllocError, Global};
@@ -128,6 +130,14 @@ fn deliver<'a, H: Host, W: Write>(
     Ok(())
 }
 
+// What a program becomes: its file, with the labels and lines of the texts if the words ask for them.
+fn made(alloc: Global, program: &Program, words: As<'_>) -> Result<Made, Unmade> {
+    if words.debug {
+        return make_with_lines(alloc, program);
+    }
+    make(alloc, program)
+}
+
 /// The command `as`. Returns whether a file is written: none is where something is wrong with the texts, which is
 /// reported, with pictures on a terminal.
 pub fn assemble<'a, H: Host, W: Write, E: Write>(
@@ -145,7 +155,7 @@ pub fn assemble<'a, H: Host, W: Write, E: Write>(
         return Err(Failure::NoMemory);
     };
     let mut reporter = Reporter::new(alloc, &program, host.screen().is_some(), stderr);
-    match make(alloc, &program) {
+    match made(alloc, &program, words) {
         Ok(made) => {
             if words.verbose {
                 reporter.passed(&made.passed);

@@ -241,7 +241,13 @@ fn refusal(alloc: Global, line: &str, why: Why) -> Result<Option<String>, AllocE
 // What a job works on.
 fn topic_of(job: &Job<'_>) -> Topic {
     match job {
-        Job::Flat(_) | Job::Run(_) | Job::Live(_) | Job::Play(_) | Job::Trace(_) => Topic::Machine,
+        Job::Flat(_)
+        | Job::Run(_)
+        | Job::Live(_)
+        | Job::Play(_)
+        | Job::Trace(_)
+        | Job::Gdb(_)
+        | Job::GdbInit => Topic::Machine,
         Job::Mkfs(_) => Topic::Making,
         Job::Check(_) => Topic::Image,
         Job::Ls(_) | Job::Get(_) | Job::Put(_) => Topic::Files,

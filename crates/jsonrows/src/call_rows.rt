@@ -1,23 +1,10 @@
 //! Calls.
 
+use crate::arguments::Argument;
 use crate::texts::{Bytes, Latin, Printed};
 use crate::waiting::WaitsRow;
 use serde::Serialize;
 use tracetext::CallName;
-
-/// An argument of a call: a number of 32 bits with its sign, or an address.
-#[derive(Clone, Copy, Serialize)]
-#[serde(untagged)]
-pub enum Argument {
-    Int(i32),
-    Address(u64),
-}
-
-impl Default for Argument {
-    fn default() -> Argument {
-        Argument::Int(0)
-    }
-}
 
 /// What a call was handed in memory, or filled in.
 /// What it has none of is left out; what can't be read, or was not filled in, is null.

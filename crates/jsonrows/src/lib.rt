@@ -3,6 +3,7 @@
 //! The members of an object are the fields of its row, in this order; docs/REPORT.md has the form.
 #![tactic(auto)]
 
+mod arguments;
 mod call_rows;
 mod descriptors;
 mod ends;
@@ -14,7 +15,8 @@ mod tests;
 mod texts;
 mod waiting;
 
-pub use call_rows::{Argument, CallRow, Handed, WaitRow};
+pub use arguments::{Argument, MOST_ARGUMENTS, arguments_of, int, short};
+pub use call_rows::{CallRow, Handed, WaitRow};
 pub use descriptors::{DescriptorRow, Descriptors, OnRow, descriptor_rows, descriptors_of};
 pub use ends::{EndedRow, ExitRow, How};
 pub use faults::FaultRow;

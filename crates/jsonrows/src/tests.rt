@@ -1,6 +1,7 @@
 //! Lines as docs/REPORT.md has them.
 
-use crate::call_rows::{Argument, CallRow, Handed};
+use crate::arguments::Argument;
+use crate::call_rows::{CallRow, Handed};
 use crate::ends::{EndedRow, ExitRow, How};
 use crate::jsonl::{BeginRow, EndRow, Kind, TurnRow, VERSION, line};
 use crate::texts::{Bytes, Latin, Printed};

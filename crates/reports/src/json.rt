@@ -1,20 +1,22 @@
 //! The report of a run, for programs: JSON, with the members in the order of these fields.
 
 use crate::ended::Ended;
+use crate::last_calls::{LastCalls, Made};
 use crate::outcome::{Outcome, PlayEnd, Stop};
 use crate::report::{Report, frames_of};
 use crate::reporter::{Fallen, Reporter, pids};
 use crate::who::Who;
 use blockdev::BlockDev;
 use jsonrows::{
-    DescriptorRow, EndedRow, FaultRow, Latin, LocationRow, VERSION, WaitsRow, descriptor_rows,
-    descriptors_of, waits_row,
+    Argument, DescriptorRow, EndedRow, FaultRow, Latin, LocationRow, Printed, VERSION, WaitsRow,
+    descriptor_rows, descriptors_of, waits_row,
 };
 use machine::{ProcessState, Seen};
 use serde::Serialize;
 use serde_json::Error;
 use std::alloc::{AllocError, Global};
 use sv39::Translate;
+use tracetext::CallName;
 
 /// Why a run stopped.
 #[derive(Clone, Copy, Serialize)]
@@ -111,8 +113,25 @@ struct ReportRow<'a> {
     ended: Vec<EndedRow<'a>>,
     more_ended: u64,
     free_frames: u32,
-    faults: Vec<FaultRow<'a>>,
+    faults: Vec<FallenRow<'a>>,
     more_faults: u64,
+}
+
+/// A call that a process made before its fault.
+#[derive(Drop, Serialize)]
+struct MadeRow {
+    since: u64,
+    call: Printed<CallName>,
+    arguments: Vec<Argument>,
+    result: Option<i64>,
+}
+
+/// A fault, and the last calls before it.
+#[derive(Drop, Serialize)]
+struct FallenRow<'a> {
+    #[serde(flatten)]
+    fault: FaultRow<'a>,
+    calls: Vec<MadeRow>,
 }
 
 fn stop_row(stop: Stop) -> StopRow {
@@ -195,6 +214,25 @@ impl<D: BlockDev, T: Translate> Report<'_, D, T> {
     }
 }
 
+fn made_row(alloc: Global, made: &Made) -> Result<MadeRow, AllocError> {
+    Ok(MadeRow {
+        since: made.asked.at,
+        call: Printed(CallName(made.asked.number)),
+        arguments: Vec::from_slice(alloc, made.arguments().as_slice())?,
+        result: made.answer,
+    })
+}
+
+fn made_rows(alloc: Global, calls: &LastCalls) -> Result<Vec<MadeRow>, AllocError> {
+    let mut rows = Vec::new(alloc);
+    for made in &calls.all() {
+        if let Some(made) = made {
+            rows.push(made_row(alloc, made)?)?;
+        }
+    }
+    Ok(rows)
+}
+
 impl Reporter {
     fn fault_row<'a>(&'a self, fallen: &'a Fallen) -> Result<FaultRow<'a>, AllocError> {
         let who = &fallen.who;
@@ -207,10 +245,12 @@ impl Reporter {
         ))
     }
 
-    fn fault_rows(&self, alloc: Global) -> Result<Vec<FaultRow<'_>>, AllocError> {
+    fn fault_rows(&self, alloc: Global) -> Result<Vec<FallenRow<'_>>, AllocError> {
         let mut rows = Vec::new(alloc);
         for fallen in self.faults() {
-            rows.push(self.fault_row(fallen)?)?;
+            let fault = self.fault_row(fallen)?;
+            let calls = made_rows(alloc, &fallen.calls)?;
+            rows.push(FallenRow { fault, calls })?;
         }
         Ok(rows)
     }

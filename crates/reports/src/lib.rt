@@ -1,9 +1,11 @@
 //! What a run was, at its end: what was used, why it stopped, who waits for what, what each process holds, which ended,
-//! and the faults that came.
+//! and the faults that came, with the calls before them.
 #![tactic(auto)]
 
+mod by_pid;
 mod ended;
 mod json;
+mod last_calls;
 mod memory;
 mod outcome;
 mod registers;

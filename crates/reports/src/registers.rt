@@ -63,13 +63,32 @@ fn write_pc<W: fmt::Write>(
     }
 }
 
-// The registers but x0, which is 0.
+// The registers except x0, which is 0.
 fn write_registers<W: fmt::Write>(f: &mut fmt::Formatter<W>, registers: &[u64; 32]) -> fmt::Result {
     for number in 1..32u8 {
         let name = register_name(Reg::new(number));
         write_register(f, name, registers[usize::from(number)])?;
     }
     Ok(())
+}
+
+/// How many registers a row has.
+const IN_ROW: u8 = 3;
+
+/// The same in rows, without their signed values.
+pub(crate) fn write_register_rows<W: fmt::Write>(
+    f: &mut fmt::Formatter<W>,
+    registers: &[u64; 32],
+) -> fmt::Result {
+    for number in 1..32u8 {
+        let name = register_name(Reg::new(number));
+        let value = registers[usize::from(number)];
+        write!(f, "  {name:<4} {value:#018x}")?;
+        if number % IN_ROW == 0 {
+            writeln!(f)?;
+        }
+    }
+    writeln!(f)
 }
 
 impl fmt::Display for RegisterReport<'_> {

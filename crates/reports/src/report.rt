@@ -1,6 +1,8 @@
 //! The report of a run, as a text.
 
+use crate::last_calls::LastCalls;
 use crate::outcome::Stop;
+use crate::registers::write_register_rows;
 use crate::reporter::{Reporter, pids};
 use crate::who::Who;
 use addresses::Name;
@@ -158,6 +160,16 @@ fn write_opened<W: fmt::Write>(
     writeln!(f, "  {descriptor}: {on}")
 }
 
+// The last calls before a fault, a line each.
+fn write_calls<W: fmt::Write>(f: &mut fmt::Formatter<W>, calls: &LastCalls) -> fmt::Result {
+    for made in &calls.all() {
+        if let Some(made) = made {
+            writeln!(f, "  call at {made}")?;
+        }
+    }
+    Ok(())
+}
+
 /// A fault of a process: `pid 3 (oops): load from 0x7000008 at pc 0x88: the process has no page there`.
 #[derive(Clone, Copy)]
 pub struct FaultLine<'a> {
@@ -283,6 +295,8 @@ impl<'a, D: BlockDev, T: Translate> Report<'a, D, T> {
                 return Err(fmt::Error);
             };
             writeln!(f, "fault: {line}")?;
+            write_calls(f, &fallen.calls)?;
+            write_register_rows(f, &fallen.registers)?;
         }
         Ok(())
     }

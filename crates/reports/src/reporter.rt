@@ -1,22 +1,25 @@
 //! What is noted while a machine runs.
 ghost use Rattle.std.specs.Prelude.{◌≡◌, None};
 
+use crate::by_pid::ByPid;
 use crate::ended::{Ended, Kill, Kills, has_ended};
+use crate::last_calls::LastCalls;
 use crate::memory::MemoryReport;
 use crate::registers::{Found, RegisterReport};
 use crate::report::{FaultLine, Report};
 use crate::teller::Wanted;
-use crate::who::{Name, Programs, Who};
+use crate::who::{Name, Who};
 use addresses::Name as PlaceName;
 use arrayvec::ArrayVec;
 use blockdev::BlockDev;
 use causes::{Fault, Named, fault_of, word};
-use jsonrows::How;
+use jsonrows::{How, int};
 use machine::{Halt, Machine, Seen};
 use std::alloc::{AllocError, Global};
 use std::fmt;
 use sv39::Translate;
 use symbolizer::Symbolizer;
+use tracetext::Asked;
 use unixmodel::event::Event;
 
 /// How many faults are kept; those that come later are counted.
@@ -50,19 +53,27 @@ enum Next {
     Other,
     Turn,
     Faults(Fault, [u64; 32]),
+    Calls(Asked, Effect),
+}
+
+/// What a call does that is noted.
+#[derive(Clone, Copy)]
+enum Effect {
+    Other,
     Forks,
     Exits(i32),
     Kills(u32),
     Execs(Name),
 }
 
-/// A process that a fault ended, at the event of this number, and its registers then.
+/// A process that a fault ended, at the event of this number, its registers then, and the calls that it made last.
 #[derive(Clone, Copy)]
 pub struct Fallen {
     pub(crate) at: u64,
     pub(crate) who: Who,
     pub(crate) fault: Fault,
     pub(crate) registers: [u64; 32],
+    pub(crate) calls: LastCalls,
 }
 
 /// How many events of each kind there were.
@@ -80,8 +91,8 @@ impl fmt::Display for Counts {
     }
 }
 
-/// Watches a machine that is given events: it counts them, and notes the faults that come, the processes that end and
-/// the names of programs.
+/// Watches a machine that is given events: it counts them, and notes the faults that come, the processes that end, the
+/// names of programs, and for a report the last calls of each process.
 #[derive(Drop)]
 pub struct Reporter {
     wanted: Wanted,
@@ -91,7 +102,8 @@ pub struct Reporter {
     // The process that ran last.
     running: u32,
     next: Next,
-    programs: Programs,
+    programs: ByPid<Name>,
+    calls: ByPid<LastCalls>,
     symbolizer: Symbolizer,
     faults: Vec<Fallen>,
     // How many faults came that aren't kept.
@@ -106,8 +118,26 @@ pub struct Reporter {
     more_ended: u64,
 }
 
-// What a process does next that is noted.
-fn next_of<D: BlockDev, T: Translate>(machine: &Machine<D, T>, pid: u32) -> Next {
+// What a process does that makes a call.
+fn asked_of(seen: &Seen, at: u64) -> Asked {
+    let registers = &seen.registers;
+    Asked {
+        pid: seen.pid,
+        number: (registers[A7] % 0x1_0000_0000) as u32,
+        arguments: [
+            registers[A0],
+            registers[11],
+            registers[12],
+            registers[13],
+            registers[14],
+            registers[15],
+        ],
+        at,
+    }
+}
+
+// What a process does next that is noted, in the event of this number.
+fn next_of<D: BlockDev, T: Translate>(machine: &Machine<D, T>, pid: u32, at: u64) -> Next {
     let Some(seen) = machine.inspect(pid) else {
         return Next::Other;
     };
@@ -115,27 +145,22 @@ fn next_of<D: BlockDev, T: Translate>(machine: &Machine<D, T>, pid: u32) -> Next
         return Next::Faults(fault, seen.registers);
     }
     match word(machine, pid, seen.pc) {
-        Some(ECALL) => call_of(machine, &seen),
+        Some(ECALL) => Next::Calls(asked_of(&seen, at), effect_of(machine, &seen)),
         _ => Next::Other,
     }
 }
 
-// An argument as the kernel takes it: its low 32 bits, with their sign.
-fn int(argument: u64) -> i32 {
-    ((argument % 0x1_0000_0000) as u32).cast_signed()
-}
-
 // What the call does that a process makes.
-fn call_of<D: BlockDev, T: Translate>(machine: &Machine<D, T>, seen: &Seen) -> Next {
+fn effect_of<D: BlockDev, T: Translate>(machine: &Machine<D, T>, seen: &Seen) -> Effect {
     match seen.registers[A7] % 0x1_0000_0000 {
-        FORK => Next::Forks,
-        EXIT => Next::Exits(int(seen.registers[A0])),
-        KILL => Next::Kills(int(seen.registers[A0]).cast_unsigned()),
+        FORK => Effect::Forks,
+        EXIT => Effect::Exits(int(seen.registers[A0])),
+        KILL => Effect::Kills(int(seen.registers[A0]).cast_unsigned()),
         EXEC => match Name::at(machine, seen.pid, seen.registers[A0]) {
-            Some(name) => Next::Execs(name),
-            None => Next::Other,
+            Some(name) => Effect::Execs(name),
+            None => Effect::Other,
         },
-        _ => Next::Other,
+        _ => Effect::Other,
     }
 }
 
@@ -188,7 +213,8 @@ impl Reporter {
             ended: Ok(()),
             running: 1,
             next: Next::Other,
-            programs: Programs::new(Name::new(first)),
+            programs: ByPid::of_first(Name::new(first)),
+            calls: ByPid::new(),
             symbolizer,
             faults: Vec::new(alloc),
             more_faults: 0,
@@ -204,6 +230,11 @@ impl Reporter {
     pub fn sees_calls(&self) -> bool {
         let wanted = self.wanted;
         wanted.report || wanted.json || wanted.registers.is_some() || wanted.faults
+    }
+
+    // Whether it keeps the last calls of processes.
+    fn keeps_calls(&self) -> bool {
+        self.wanted.report || self.wanted.json
     }
 
     /// What is wanted of the run.
@@ -317,7 +348,7 @@ impl Reporter {
 
     pub(crate) fn who(&self, pid: u32) -> Who {
         let name = if self.sees_calls() {
-            self.programs.name(pid)
+            self.programs.get(pid)
         } else {
             None
         };
@@ -330,7 +361,40 @@ impl Reporter {
             return Next::Turn;
         };
         self.running = pid;
-        next_of(machine, pid)
+        next_of(machine, pid, self.at())
+    }
+
+    // The last calls of a process.
+    fn last_calls(&self, pid: u32) -> LastCalls {
+        match self.calls.get(pid) {
+            Some(calls) => calls,
+            None => LastCalls::new(),
+        }
+    }
+
+    // Notes the call that the next step makes.
+    fn note_call<D: BlockDev, T: Translate>(&mut self, machine: &Machine<D, T>) {
+        if let Next::Calls(asked, _) = self.next
+            && self.keeps_calls()
+        {
+            let mut calls = self.last_calls(asked.pid);
+            calls.begin(asked);
+            self.calls.set(machine, asked.pid, calls);
+        }
+    }
+
+    // Notes the answer of the last call of the process that has the hart: its a0 as it goes on.
+    fn note_answer<D: BlockDev, T: Translate>(&mut self, machine: &Machine<D, T>) {
+        if !self.keeps_calls() {
+            return;
+        }
+        if let Some(pid) = machine.running()
+            && let Some(seen) = machine.inspect(pid)
+            && let Some(mut calls) = self.calls.get(pid)
+        {
+            calls.answer(seen.registers[A0].cast_signed());
+            self.calls.set(machine, pid, calls);
+        }
     }
 
     // Keeps a process that ended, or counts it.
@@ -386,6 +450,7 @@ impl Reporter {
             who: self.who(pid),
             fault,
             registers,
+            calls: self.last_calls(pid),
         };
         self.keep_fault(fallen);
         self.note_end(machine, pid, How::Fault, -1, None);
@@ -413,7 +478,7 @@ impl Reporter {
         let Some(child) = answer(machine, self.running) else {
             return;
         };
-        let Some(name) = self.programs.name(self.running) else {
+        let Some(name) = self.programs.get(self.running) else {
             return;
         };
         if let Ok(child) = u32::try_from(child) {
@@ -450,6 +515,7 @@ impl Reporter {
             Event::Step => self.look_ahead(machine),
             Event::Tick | Event::Key(_) => Next::Other,
         };
+        self.note_call(machine);
     }
 
     /// Looks at the machine after the event, which returned `ended`.
@@ -459,18 +525,32 @@ impl Reporter {
         ended: Result<(), Halt>,
     ) {
         self.ended = ended;
-        let pid = self.running;
         if matches!(ended, Err(Halt::Device | Halt::Console | Halt::Halted)) {
             return;
         }
         match self.next {
             Next::Other => {}
-            Next::Turn => self.note_killed(machine),
+            Next::Turn => {
+                self.note_killed(machine);
+                self.note_answer(machine);
+            }
             Next::Faults(fault, registers) => self.note_fault(machine, fault, registers),
-            Next::Forks => self.note_child(machine),
-            Next::Exits(status) => self.note_end(machine, pid, How::Exit, status, None),
-            Next::Kills(victim) => self.note_kill(machine, victim),
-            Next::Execs(name) => self.note_exec(machine, name),
+            Next::Calls(_, effect) => {
+                self.note_effect(machine, effect);
+                self.note_answer(machine);
+            }
+        }
+    }
+
+    // Notes what the call of the running process did.
+    fn note_effect<D: BlockDev, T: Translate>(&mut self, machine: &Machine<D, T>, effect: Effect) {
+        let pid = self.running;
+        match effect {
+            Effect::Other => {}
+            Effect::Forks => self.note_child(machine),
+            Effect::Exits(status) => self.note_end(machine, pid, How::Exit, status, None),
+            Effect::Kills(victim) => self.note_kill(machine, victim),
+            Effect::Execs(name) => self.note_exec(machine, name),
         }
     }
 }

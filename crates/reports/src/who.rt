@@ -90,61 +90,6 @@ impl fmt::Display for Name {
     }
 }
 
-/// The programs of processes by their pids.
-#[derive(Drop)]
-pub struct Programs {
-    known: [Option<(u32, Name)>; 64],
-}
-
-impl Programs {
-    /// Process 1 and its program.
-    pub(crate) fn new(first: Name) -> Programs {
-        let mut known = [None; 64];
-        known[0] = Some((1, first));
-        Programs { known }
-    }
-
-    /// The name of a process's program, if it is known.
-    pub(crate) fn name(&self, pid: u32) -> Option<Name> {
-        for entry in &self.known {
-            if let Some((known, name)) = entry
-                && *known == pid
-            {
-                return Some(*name);
-            }
-        }
-        None
-    }
-
-    // The index of a pid's entry, else of one that is free or whose process is gone: there are as many entries as there
-    // can be processes.
-    fn place<D: BlockDev, T: Translate>(&self, machine: &Machine<D, T>, pid: u32) -> Option<usize> {
-        let mut free = None;
-        for (place, entry) in self.known.iter().enumerate() {
-            match entry {
-                Some((known, _)) if *known == pid => return Some(place),
-                Some((known, _)) if machine.inspect(*known).is_some() => {}
-                _ => free = Some(place),
-            }
-        }
-        free
-    }
-
-    /// The name of a process's program from now on.
-    pub fn set<D: BlockDev, T: Translate>(
-        &mut self,
-        machine: &Machine<D, T>,
-        pid: u32,
-        name: Name,
-    ) {
-        if let Some(place) = self.place(machine, pid)
-            && let Some(entry) = self.known.get_mut(place)
-        {
-            *entry = Some((pid, name));
-        }
-    }
-}
-
 /// A process and its program: `pid 3 (cat)`.
 #[derive(Clone, Copy)]
 pub struct Who {

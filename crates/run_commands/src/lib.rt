@@ -11,7 +11,8 @@ mod seat;
 pub mod sessions;
 mod telling;
 
-pub use naming::symbolizer_of;
+pub use naming::{programs_named, programs_of, symbolizer_of};
 pub use progress::{Cleared, Gauge, Meter};
 pub use runs::{keep, read_run, run_watched_over, script_of};
+pub use scribe::Scribe;
 pub use telling::{Both, Teller, looks_on, pid_of};

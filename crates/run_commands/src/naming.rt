@@ -5,8 +5,8 @@ use hosts::{Failure, Front, Host, Why, disk_of};
 use std::alloc::{AllocError, Global};
 use symbolizer::{Program, ProgramsFault, Symbolizer, programs};
 
-// The programs of an image, none where it is refused.
-fn programs_of<'a>(alloc: Global, image: &Front) -> Result<Vec<Program>, Failure<'a>> {
+/// The programs of an image, none where it is refused.
+pub fn programs_of<'a>(alloc: Global, image: &Front) -> Result<Vec<Program>, Failure<'a>> {
     let Ok(bytes) = Vec::from_slice(alloc, image.bytes.as_slice()) else {
         return Err(Failure::NoMemory);
     };
@@ -84,6 +84,23 @@ fn take_beside<'a, H: Host>(
     }
 }
 
+/// The programs of an image, and where a directory is named its `NAME.elf` in place of the file of `/NAME`. There are
+/// none where the image is refused, which the boot reports.
+pub fn programs_named<'a, H: Host>(
+    alloc: Global,
+    image: &Front,
+    symbols: Option<&'a str>,
+    host: &mut H,
+) -> Result<Vec<Program>, Failure<'a>>
+    ensures { H.files host.new ≡ H.files host.old }
+{
+    let mut programs = programs_of(alloc, image)?;
+    if let Some(directory) = symbols {
+        take_beside(alloc, programs.as_mut_slice(), directory, host)?;
+    }
+    Ok(programs)
+}
+
 /// The names that the files of an image's programs have, and where a directory is named those of its `NAME.elf` for
 /// `/NAME`. There are none where the image is refused, which the boot reports.
 pub fn symbolizer_of<'a, H: Host>(
@@ -94,9 +111,6 @@ pub fn symbolizer_of<'a, H: Host>(
 ) -> Result<Symbolizer, Failure<'a>>
     ensures { H.files host.new ≡ H.files host.old }
 {
-    let mut programs = programs_of(alloc, image)?;
-    if let Some(directory) = symbols {
-        take_beside(alloc, programs.as_mut_slice(), directory, host)?;
-    }
+    let programs = programs_named(alloc, image, symbols, host)?;
     Ok(Symbolizer::of(alloc, programs))
 }

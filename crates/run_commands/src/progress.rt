@@ -161,6 +161,14 @@ impl<S: Screen> Meter<S> {
         }
     }
 
+    /// Shows a text on the terminal, if there is one, in place of the line.
+    pub(crate) fn draw<T: fmt::Display>(&self, text: &T) {
+        self.clear();
+        if let Some(screen) = &self.screen {
+            screen.show(text);
+        }
+    }
+
     // Writes bytes on the terminal, if there is one.
     fn print(&self, bytes: &[u8]) {
         if let Some(screen) = &self.screen

@@ -92,7 +92,7 @@ pub struct Scribe<'a, 'b, H> {
 
 impl<'a, 'b, H: Host> Scribe<'a, 'b, H> {
     /// A scribe whose script goes to the file of this name, which is made with the first lines.
-    pub(crate) fn new(alloc: Global, host: &'b mut H, script: Option<&'a str>) -> Self {
+    pub fn new(alloc: Global, host: &'b mut H, script: Option<&'a str>) -> Self {
         Scribe {
             host,
             script,

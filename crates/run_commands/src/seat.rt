@@ -5,7 +5,9 @@ ghost use Rattle.run_commands.specs.declared.seat.Typed.TheVariants.{Key};
 use crate::progress::Meter;
 use arrayvec::ArrayVec;
 use blockdev::BlockDev;
+use commandline::Live;
 use hosts::{Failure, Host, Screen, Why, append};
+use line_editor::{Editor, Keys};
 use live::{Given, MOST_KEYS, Mood, Move, Terminal};
 use machine::{Machine, ProcessState, Seen};
 use std::alloc::{AllocError, Global};
@@ -73,6 +75,10 @@ pub struct Seat<'a, 'b, H, S, E> {
     typed: ArrayVec<u8, MOST_KEYS>,
     // Whether the last byte was an escape.
     is_escaped: bool,
+    // The line that is edited, where lines are.
+    editor: Option<Editor>,
+    // The keys of a line that is finished, as far as they were not given yet.
+    finished: Keys,
     // Why the record could not be written.
     failure: Option<Failure<'a>>,
     // Why standard input could not be read.
@@ -80,24 +86,30 @@ pub struct Seat<'a, 'b, H, S, E> {
 }
 
 impl<'a, 'b, H: Host, S: Screen, E: Write> Seat<'a, 'b, H, S, E> {
-    /// A terminal over a host, whose record goes to the file of this name, which is there.
+    /// A terminal over a host, whose record goes to a file which is there. Lines are edited where they are shown.
     pub(crate) fn new(
         alloc: Global,
         host: &'b mut H,
         meter: &'b Meter<S>,
         stderr: &'b mut E,
-        is_terminal: bool,
-        script: Option<&'a str>,
+        words: &Live<'a>,
     ) -> Self {
+        let editor = if words.edit && words.terminal && meter.has_screen() {
+            Some(Editor::new(alloc))
+        } else {
+            None
+        };
         Seat {
             host,
             meter,
             stderr,
-            is_terminal,
-            script,
+            is_terminal: words.terminal,
+            script: words.script,
             lines: String::new(alloc),
             typed: ArrayVec::new(),
             is_escaped: false,
+            editor,
+            finished: Keys::new(),
             failure: None,
             unread: None,
         }
@@ -207,9 +219,74 @@ impl<H: Host, S: Screen, E: Write> Seat<'_, '_, H, S, E> {
         self.is_escaped = false;
     }
 
-    // What the bytes give that were read: keys up to the end of a line or to a byte that is none, or what that byte
-    // asks for.
+    // Changes the line that is edited, and shows it.
+    fn edit(&mut self, key: u8) {
+        if let Some(editor) = &mut self.editor {
+            let back = editor.column();
+            if let Some(keys) = editor.take(key) {
+                self.finished = keys;
+            }
+            self.meter.draw(&editor.drawing(back));
+        }
+    }
+
+    // Gives keys of the line that is finished.
+    fn give_finished(&mut self) -> Given {
+        let mut keys = ArrayVec::new();
+        for _ in 0..MOST_KEYS {
+            if self.finished.is_empty() {
+                break;
+            }
+            let _ = keys.try_push(self.finished.remove(0));
+        }
+        Given::Keys(keys)
+    }
+
+    // What the bytes give that were read where lines are edited: the keys of a line that is finished, or what a byte
+    // asks for that is no key.
+    fn edit_typed(&mut self) -> Given {
+        for _ in 0..MOST_KEYS {
+            if !self.finished.is_empty() {
+                break;
+            }
+            let Some(byte) = self.typed.first().copied() else {
+                break;
+            };
+            match meaning(self.is_terminal, self.is_escaped, byte) {
+                Typed::Key(key) => {
+                    self.take();
+                    self.edit(key);
+                }
+                Typed::Escape => {
+                    self.take();
+                    self.is_escaped = true;
+                }
+                Typed::Show => {
+                    self.take();
+                    return Given::Show;
+                }
+                Typed::End => return Given::End,
+            }
+        }
+        if self.finished.is_empty() {
+            Given::Nothing
+        } else {
+            self.give_finished()
+        }
+    }
+
+    // What the bytes give that were read.
     fn next_given(&mut self) -> Given {
+        if self.editor.is_some() {
+            self.edit_typed()
+        } else {
+            self.next_keys()
+        }
+    }
+
+    // The same where lines are not edited: keys up to the end of a line or to a byte that is none, or what that byte
+    // asks for.
+    fn next_keys(&mut self) -> Given {
         let mut keys = ArrayVec::new();
         for _ in 0..MOST_KEYS {
             let Some(byte) = self.typed.first().copied() else {
@@ -256,7 +333,7 @@ impl<H: Host, S: Screen, E: Write> Terminal for Seat<'_, '_, H, S, E> {
         if !self.is_asked(mood) {
             return Given::Nothing;
         }
-        if self.typed.is_empty() {
+        if self.typed.is_empty() && self.finished.is_empty() {
             match self.read() {
                 Ok(true) => (),
                 Ok(false) => return Given::Nothing,

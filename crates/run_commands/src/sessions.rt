@@ -125,7 +125,7 @@ fn live<'a, H: Host, S: Screen, W: Write, E: Write>(
     };
     let machine = boot_image(alloc, words, image)?;
     begin_record(words.script, host)?;
-    let mut seat = Seat::new(alloc, host, meter, stderr, words.terminal, words.script);
+    let mut seat = Seat::new(alloc, host, meter, stderr, words);
     let mut crier = Crier::on_screen(alloc, meter, symbolizer);
     let saves = words.save.is_some();
     let ran = sit(

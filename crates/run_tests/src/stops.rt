@@ -36,6 +36,26 @@ const CRASH: &str = "
         sd zero, 0(a0)
 ";
 
+/// The same after calls of uptime, getpid, close, dup and write.
+const CALLER: &str = "
+        li a7, 14
+        ecall
+        li a7, 11
+        ecall
+        li a0, 7
+        li a7, 21
+        ecall
+        li a0, 9
+        li a7, 10
+        ecall
+        li a0, 1
+        li a1, 16
+        li a2, 3
+        li a7, 16
+        ecall
+        sd zero, 0(zero)
+";
+
 /// The child executes a program of compressed code; the parent opens the console then, and reads it.
 const COMPRESSED: &str = "
         li a7, 1
@@ -114,7 +134,7 @@ const RAN: Outcome = Outcome {
     play: None,
 };
 
-static ROWS: [Row; 15] = [
+static ROWS: [Row; 16] = [
     Row {
         name: "a loop",
         init: LOOP,
@@ -179,6 +199,17 @@ stopped: process 1 ended with status -1
 pid 1 (/init) ended with status -1; parent 0, pc 0x8, 12288 bytes, 9 frames
 free frames: 55
 fault: pid 1 (/init): store to 0x0 at pc 0x8: the page may not be written
+  ra   0x0000000000000000  sp   0x0000000000002fe0  gp   0x0000000000000000
+  tp   0x0000000000000000  t0   0x0000000000000000  t1   0x0000000000000000
+  t2   0x0000000000000000  s0   0x0000000000000000  s1   0x0000000000000000
+  a0   0x0000000000000000  a1   0x0000000000002fe0  a2   0x0000000000000000
+  a3   0x0000000000000000  a4   0x0000000000000000  a5   0x0000000000000000
+  a6   0x0000000000000000  a7   0x0000000000000000  s2   0x0000000000000000
+  s3   0x0000000000000000  s4   0x0000000000000000  s5   0x0000000000000000
+  s6   0x0000000000000000  s7   0x0000000000000000  s8   0x0000000000000000
+  s9   0x0000000000000000  s10  0x0000000000000000  s11  0x0000000000000000
+  t3   0x0000000000000000  t4   0x0000000000000000  t5   0x0000000000000000
+  t6   0x0000000000000000
 ",
         json: &[],
     },
@@ -197,6 +228,50 @@ pid 1 (/init) reads the console; parent 0, pc 0x90, 12288 bytes, 9 frames
   0: console
 free frames: 55
 fault: pid 2 (wc): illegal instruction 0x1141 at pc 0x0 (compressed code? compile with -march=rv64im)
+  call at 19: exec(0x98, 0x90) = 0
+  ra   0x0000000000000000  sp   0x0000000000002ff0  gp   0x0000000000000000
+  tp   0x0000000000000000  t0   0x0000000000000000  t1   0x0000000000000000
+  t2   0x0000000000000000  s0   0x0000000000000000  s1   0x0000000000000000
+  a0   0x0000000000000000  a1   0x0000000000002ff0  a2   0x0000000000000000
+  a3   0x0000000000000000  a4   0x0000000000000000  a5   0x0000000000000000
+  a6   0x0000000000000000  a7   0x0000000000000007  s2   0x0000000000000000
+  s3   0x0000000000000000  s4   0x0000000000000000  s5   0x0000000000000000
+  s6   0x0000000000000000  s7   0x0000000000000000  s8   0x0000000000000000
+  s9   0x0000000000000000  s10  0x0000000000000000  s11  0x0000000000000000
+  t3   0x0000000000000000  t4   0x0000000000000000  t5   0x0000000000000000
+  t6   0x0000000000000000
+",
+        json: &[],
+    },
+    Row {
+        name: "a process stores to its code after five calls",
+        init: CALLER,
+        steps: 100,
+        ticks: 0,
+        rounds: 1,
+        outcome: RAN,
+        asked: Asked::Report,
+        text: "\
+report: 27 steps, 0 ticks, 0 keys
+stopped: process 1 ended with status -1
+pid 1 (/init) ended with status -1; parent 0, pc 0x64, 12288 bytes, 9 frames
+free frames: 55
+fault: pid 1 (/init): store to 0x0 at pc 0x64: the page may not be written
+  call at 7: getpid() = 1
+  call at 12: close(7) = -1
+  call at 17: dup(9) = -1
+  call at 26: write(1, 0x10, 3) = -1
+  ra   0x0000000000000000  sp   0x0000000000002fe0  gp   0x0000000000000000
+  tp   0x0000000000000000  t0   0x0000000000000000  t1   0x0000000000000000
+  t2   0x0000000000000000  s0   0x0000000000000000  s1   0x0000000000000000
+  a0   0xffffffffffffffff  a1   0x0000000000000010  a2   0x0000000000000003
+  a3   0x0000000000000000  a4   0x0000000000000000  a5   0x0000000000000000
+  a6   0x0000000000000000  a7   0x0000000000000010  s2   0x0000000000000000
+  s3   0x0000000000000000  s4   0x0000000000000000  s5   0x0000000000000000
+  s6   0x0000000000000000  s7   0x0000000000000000  s8   0x0000000000000000
+  s9   0x0000000000000000  s10  0x0000000000000000  s11  0x0000000000000000
+  t3   0x0000000000000000  t4   0x0000000000000000  t5   0x0000000000000000
+  t6   0x0000000000000000
 ",
         json: &[],
     },
@@ -385,6 +460,19 @@ free frames: 45
             "        \"call\": \"read\",\n        \"kind\": \"console\",\n        \"pids\": [],\n",
             "      \"cause\": \"illegal_instruction\",\n      \"reason\": null,\n      \"pc\": 0,\n      \"address\": 0,\n      \"word\": 3825602881,\n",
             "      \"pid\": 2,\n      \"program\": \"wc\",\n      \"parent\": 1,\n      \"how\": \"fault\",\n",
+            "\
+      \"calls\": [
+        {
+          \"since\": 19,
+          \"call\": \"exec\",
+          \"arguments\": [
+            152,
+            144
+          ],
+          \"result\": 0
+        }
+      ]
+",
         ],
     },
     Row {

@@ -3,6 +3,7 @@
 use crate::memory;
 use arrayvec::ArrayVec;
 use blockdev::BlockDev;
+use jsonrows::{int, short};
 use machine::{Call, Machine};
 use std::alloc::AllocError;
 use sv39::Translate;
@@ -13,16 +14,6 @@ const MOST_PATH: usize = 127;
 
 /// The most arguments of a program, with the 0 after them.
 const MOST_ARGUMENTS: u64 = 32;
-
-/// An argument as the kernel takes it: its low 32 bits, with their sign.
-pub(crate) fn int(argument: u64) -> i32 {
-    ((argument % 0x1_0000_0000) as u32).cast_signed()
-}
-
-/// A device's number: the low 16 bits, with their sign.
-pub(crate) fn short(argument: u64) -> i16 {
-    ((argument % 0x1_0000) as u16).cast_signed()
-}
 
 // Writes an argument as a number.
 fn write_int(out: &mut String, argument: u64) -> Result<(), AllocError> {

@@ -1,17 +1,14 @@
 //! What a call was handed, for the lines of events: its arguments, and the texts and numbers in memory.
 
-use crate::call_text::{count_read, count_written, ends_of, int, short, status_of};
+use crate::call_text::{count_read, count_written, ends_of, status_of};
 use crate::memory;
 use arrayvec::ArrayVec;
 use blockdev::BlockDev;
-use jsonrows::{Argument, Bytes, Handed};
+use jsonrows::{Argument, Bytes, Handed, MOST_ARGUMENTS, arguments_of, int};
 use machine::{Call, Machine};
 use std::alloc::{AllocError, Global};
 use sv39::Translate;
 use tracetext::Asked;
-
-/// The most arguments of a call.
-pub const MOST_ARGUMENTS: usize = 3;
 
 /// The most bytes of a path.
 const MOST_PATH: u64 = 127;
@@ -19,55 +16,10 @@ const MOST_PATH: u64 = 127;
 /// The most arguments of a program, with the 0 after them.
 const MOST_STRINGS: u64 = 32;
 
-/// How an argument is read, where a call has one.
-#[derive(Clone, Copy)]
-enum Shape {
-    Nothing,
-    Int,
-    Short,
-    Address,
-}
-
-// How the arguments of a call are read.
-fn shapes_of(call: Option<Call>) -> [Shape; MOST_ARGUMENTS] {
-    let (none, int, address) = (Shape::Nothing, Shape::Int, Shape::Address);
-    match call {
-        Some(Call::Fork | Call::Getpid | Call::Uptime) => [none, none, none],
-        Some(Call::Exit | Call::Kill | Call::Dup | Call::Sbrk | Call::Sleep | Call::Close) => {
-            [int, none, none]
-        }
-        Some(Call::Wait | Call::Pipe | Call::Chdir | Call::Unlink | Call::Mkdir) => {
-            [address, none, none]
-        }
-        Some(Call::Read | Call::Write) => [int, address, int],
-        Some(Call::Exec | Call::Link) => [address, address, none],
-        Some(Call::Fstat) => [int, address, none],
-        Some(Call::Open) => [address, int, none],
-        Some(Call::Mknod) => [address, Shape::Short, Shape::Short],
-        None => [address, address, address],
-    }
-}
-
-// An argument that is read so.
-fn argument_of(shape: Shape, value: u64) -> Option<Argument> {
-    match shape {
-        Shape::Nothing => None,
-        Shape::Int => Some(Argument::Int(int(value))),
-        Shape::Short => Some(Argument::Int(i32::from(short(value)))),
-        Shape::Address => Some(Argument::Address(value)),
-    }
-}
-
 /// The arguments of a call.
-pub(crate) fn arguments_of(asked: &Asked) -> ArrayVec<Argument, MOST_ARGUMENTS> {
-    let shapes = shapes_of(asked.call());
-    let mut arguments = ArrayVec::new();
-    for index in 0..MOST_ARGUMENTS {
-        if let Some(argument) = argument_of(shapes[index], asked.arguments[index]) {
-            let _ = arguments.try_push(argument);
-        }
-    }
-    arguments
+pub(crate) fn arguments_asked(asked: &Asked) -> ArrayVec<Argument, MOST_ARGUMENTS> {
+    let [a0, a1, a2, ..] = asked.arguments;
+    arguments_of(asked.call(), a0, a1, a2)
 }
 
 /// Reads what a process was handed in memory, and keeps whether a text was cut.

@@ -219,12 +219,24 @@ static ROWS: [Row; 6] = [
             stopped: process 1 ended with status -1\n\
             pid 1 (/init) ended with status -1; parent 0, pc 0x4 in main+0x4, 12288 bytes, 9 frames\n\
             free frames: 55\n\
-            fault: pid 1 (/init): load from 0x7000008 at pc 0x4 in main+0x4: the process has no page there\n\
+            fault: pid 1 (/init): load from 0x7000008 at pc 0x4 in main+0x4: the process has no page there\n  \
+            ra   0x0000000000000000  sp   0x0000000000002fe0  gp   0x0000000000000000\n  \
+            tp   0x0000000000000000  t0   0x0000000000000000  t1   0x0000000000000000\n  \
+            t2   0x0000000000000000  s0   0x0000000000000000  s1   0x0000000000000000\n  \
+            a0   0x0000000007000000  a1   0x0000000000002fe0  a2   0x0000000000000000\n  \
+            a3   0x0000000000000000  a4   0x0000000000000000  a5   0x0000000000000000\n  \
+            a6   0x0000000000000000  a7   0x0000000000000000  s2   0x0000000000000000\n  \
+            s3   0x0000000000000000  s4   0x0000000000000000  s5   0x0000000000000000\n  \
+            s6   0x0000000000000000  s7   0x0000000000000000  s8   0x0000000000000000\n  \
+            s9   0x0000000000000000  s10  0x0000000000000000  s11  0x0000000000000000\n  \
+            t3   0x0000000000000000  t4   0x0000000000000000  t5   0x0000000000000000\n  \
+            t6   0x0000000000000000\n\
             halt 1 InitEnded -1\n",
         shown: "",
         parts: &[
             "\"cause\": \"load_page_fault\"",
             "\"reason\": \"no_page\"",
+            "\"calls\": []",
             "      \"location\": {\n        \"function\": \"main\",\n        \"offset\": 4,\n        \"file\": null,\n",
         ],
     },
@@ -259,6 +271,7 @@ fn live_of(row: &Row) -> Live<'static> {
         script: None,
         save: None,
         terminal: false,
+        edit: false,
         symbols: row.symbols,
         image: "image",
     }

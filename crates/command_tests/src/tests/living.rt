@@ -108,6 +108,7 @@ const LIVE: Live<'static> = Live {
     script: Some("record"),
     save: Some("saved"),
     terminal: false,
+    edit: false,
     symbols: None,
     image: "image",
 };

@@ -150,6 +150,7 @@ const AS: As<'static> = As {
     },
     out: Some("image"),
     expand: false,
+    debug: false,
     verbose: false,
 };
 
@@ -212,12 +213,38 @@ fn expect_expanded(rt: &(impl Abort + AllocGlobal)) {
     );
 }
 
+// A text with a macro, and what is shown of it with the names of its addresses.
+const NAMED: &str = "start: la a0, end\n.macro m\n nop\n.endm\n m\nend: ret";
+
+const HEADED: &str =
+    "start (script:1):\n00000000: 00000517 auipc a0, 0x0\n00000004: 00c50513 addi a0, a0, 12\nstart+0x8 (script:3):\n00000008: 00000013 addi zero, zero, 0\nend (script:6):\n0000000c: 00008067 jalr zero, 0(ra)\n";
+
+// The labels of a text, and its lines, are read of its file.
+fn expect_names(rt: &(impl Abort + AllocGlobal)) {
+    let nothing = Vec::new(rt.alloc());
+    let mut files = files_of(rt.alloc(), nothing, NAMED.as_bytes()).expect(rt, "memory");
+    let job = Job::As(As { debug: true, ..AS });
+    expect(rt, ("as", "-g"), &mut files, &job, DONE);
+    let dump = Job::Dump(Dump {
+        names: true,
+        elf: "image",
+    });
+    expect(
+        rt,
+        ("a dump", "with names"),
+        &mut files,
+        &dump,
+        (HEADED, "", 0),
+    );
+}
+
 #[test]
 fn assembles_texts_for_others(rt: HostRuntime) {
     for row in MADE {
         expect_made(&rt, row);
     }
     expect_expanded(&rt);
+    expect_names(&rt);
 }
 
 #[test]

@@ -125,6 +125,7 @@ fn live() -> Job<'static> {
         script: None,
         save: None,
         terminal: true,
+        edit: false,
         symbols: None,
         image: "image",
     })

@@ -5,8 +5,8 @@ use crate::tests::{UNTOLD, expect_that};
 use clap::Error;
 use clap::error::ErrorKind;
 use commands::{
-    As, Asm, Check, Dump, Files, Flat, Get, Job, Lines, Live, Ls, Migrate, Mkfs, Part, Play, Put,
-    Run, Telling, Trace, explains, job, refuse,
+    As, Asm, Check, Dump, Files, Flat, Gdb, Get, Job, Lines, Live, Ls, Migrate, Mkfs, Part, Play,
+    Put, Run, Telling, Trace, explains, job, refuse,
 };
 use std::num::NonZeroU64;
 use std::process::Abort;
@@ -79,7 +79,7 @@ fn error_of(rt: &(impl Abort + AllocGlobal), line: &str) -> Error {
         .expect(rt, "an error")
 }
 
-static REFUSALS: [(&str, ErrorKind); 26] = [
+static REFUSALS: [(&str, ErrorKind); 29] = [
     ("xv6 --help  ", ErrorKind::DisplayHelp),
     ("xv6 flat a --help", ErrorKind::DisplayHelp),
     ("xv6 sharp a b", ErrorKind::InvalidSubcommand),
@@ -106,6 +106,9 @@ static REFUSALS: [(&str, ErrorKind); 26] = [
     ("xv6 live --quantum=0 a", ErrorKind::ValueValidation),
     ("xv6 live --quantum=1 a", ErrorKind::ValueValidation),
     ("xv6 live a b", ErrorKind::UnknownArgument),
+    ("xv6 gdb", ErrorKind::MissingRequiredArgument),
+    ("xv6 gdb --memory=+1 a", ErrorKind::ValueValidation),
+    ("xv6 gdb a b c", ErrorKind::UnknownArgument),
 ];
 
 // What is printed of a line that is no job: the line, how many bytes standard output takes, how standard error begins,
@@ -141,6 +144,7 @@ static HELP: [(&str, &[&str]); 5] = [
             "live",
             "play",
             "trace",
+            "gdb",
             "mkfs",
             "check",
             "ls",
@@ -191,6 +195,7 @@ static HELP: [(&str, &[&str]); 5] = [
             "--save",
             "--terminal",
             "^A x",
+            "--edit",
         ],
     ),
 ];
@@ -371,6 +376,7 @@ fn expect_program_jobs(rt: &(impl Abort + AllocGlobal)) {
             },
             out: Some("c"),
             expand: true,
+            debug: false,
             verbose: false,
         }),
     );
@@ -404,23 +410,53 @@ fn expect_live_jobs(rt: &(impl Abort + AllocGlobal)) {
             script: None,
             save: None,
             terminal: false,
+            edit: false,
             symbols: None,
             image: "b",
         }),
     );
     expect_job(
         rt,
-        "xv6 live --record=c --terminal --frames=64 --quantum 2 --symbols e b --save=d",
+        "xv6 live --record=c --terminal --edit --frames=64 --quantum 2 --symbols e b --save=d",
         &Job::Live(Live {
             frames: 64,
             quantum: NonZeroU64::new(2),
             script: Some("c"),
             save: Some("d"),
             terminal: true,
+            edit: true,
             symbols: Some("e"),
             image: "b",
         }),
     );
+}
+
+fn expect_gdb_jobs(rt: &(impl Abort + AllocGlobal)) {
+    expect_job(
+        rt,
+        "xv6 gdb b",
+        &Job::Gdb(Gdb {
+            frames: 256,
+            memory: 1024,
+            recorded: None,
+            symbols: None,
+            image: "b",
+            script: None,
+        }),
+    );
+    expect_job(
+        rt,
+        "xv6 gdb --record=c --frames=64 --memory 2 --symbols e b d",
+        &Job::Gdb(Gdb {
+            frames: 64,
+            memory: 2,
+            recorded: Some("c"),
+            symbols: Some("e"),
+            image: "b",
+            script: Some("d"),
+        }),
+    );
+    expect_job(rt, "xv6 gdb --init", &Job::GdbInit);
 }
 
 fn expect_play_and_trace_jobs(rt: &(impl Abort + AllocGlobal)) {
@@ -466,6 +502,7 @@ fn expect_jobs(rt: &(impl Abort + AllocGlobal)) {
     expect_path_jobs(rt);
     expect_program_jobs(rt);
     expect_live_jobs(rt);
+    expect_gdb_jobs(rt);
     expect_play_and_trace_jobs(rt);
 }
 

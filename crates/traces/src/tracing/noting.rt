@@ -1,7 +1,7 @@
 //! The lines of events.
 
 use super::Tracer;
-use crate::handed::{arguments_of, handed_of};
+use crate::handed::{arguments_asked, handed_of};
 use crate::lanes::Lane;
 use blockdev::BlockDev;
 use causes::{Fault, Named};
@@ -111,7 +111,7 @@ impl<S: Sinks + Drop> Tracer<S> {
             return;
         }
         let handed = mem::replace(&mut self.handed, Handed::nothing());
-        let arguments = arguments_of(asked);
+        let arguments = arguments_asked(asked);
         let at = self.number();
         let program = program_of(self.lane(asked.pid));
         let row = CallRow {
@@ -146,7 +146,7 @@ impl<S: Sinks + Drop> Tracer<S> {
     // Writes that a call waits for this.
     fn note_waits(&mut self, asked: &Asked, waits: Option<WaitsRow>) {
         let handed = mem::replace(&mut self.handed, Handed::nothing());
-        let arguments = arguments_of(asked);
+        let arguments = arguments_asked(asked);
         let row = WaitRow {
             at: self.number(),
             pid: asked.pid,

@@ -2,12 +2,11 @@
 
 use super::beginning::done_of;
 use super::{Tracer, answer_of};
-use crate::call_text::int;
 use crate::faults::fault_text;
 use crate::lanes::{Doing, Exit, Lane, place_of};
 use blockdev::BlockDev;
 use causes::fault_of;
-use jsonrows::{How, Kind};
+use jsonrows::{How, Kind, int};
 use machine::{Call, Machine, ProcessState, Seen};
 use sv39::Translate;
 use tracetext::commits::Note;

@@ -26,5 +26,10 @@ returns-in-Some-subcommand_matches-4 c =
     is-job c.trace.result c.args.matches.now _ _ (c.in-Some-subcommand_matches-4.ensures.found.0 refl)
     c.in-Some-subcommand_matches-4.ensures.rows c.trace.ensures
 
+pub returns-in-Some-subcommand_matches-5 : goal.returns-in-Some-subcommand_matches-5
+returns-in-Some-subcommand_matches-5 c =
+    is-job c.gdb.result c.args.matches.now _ _ (c.in-Some-subcommand_matches-5.ensures.found.0 refl)
+    c.in-Some-subcommand_matches-5.ensures.rows c.gdb.ensures
+
 pub returns : goal.returns
 returns c = c.image_job.ensures

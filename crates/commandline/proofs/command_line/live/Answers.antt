@@ -8,6 +8,7 @@ returns c = told (record {
   script = c.option_found-script.ensures;
   save = c.option_found-save.ensures;
   terminal = c.flag_found-terminal.ensures;
+  edit = c.flag_found-edit.ensures;
   symbols = c.option_found-symbols.ensures;
   image = c.in-Some-word_found.ensures;
 })

@@ -1,0 +1,5 @@
+pub mod Bytes
+pub mod File
+pub mod Labels
+pub mod Program
+pub mod Unit

@@ -1,0 +1,8 @@
+break report
+continue
+print number
+watch kept.counter
+reverse-continue
+reverse-continue
+backtrace
+print kept.small

@@ -1,0 +1,9 @@
+monitor type abc
+continue
+continue
+monitor type abc
+continue
+monitor when
+reverse-step
+backtrace
+monitor nonsense
