@@ -292,13 +292,17 @@ fn job_of(row: &Row) -> Job<'static> {
 // The files that are read: the image, the flat program, the file with symbols.
 type Given<'a> = (&'a [u8], &'a [u8], &'a [u8]);
 
-fn expect_row(rt: &(impl Abort + AllocGlobal), given: Given<'_>, row: &Row) {
+fn expect_row<'a>(
+    rt: &(impl Abort + AllocGlobal),
+    given: Given<'a>,
+    shown: &'a Cell<String>,
+    row: &Row,
+) {
     let (image, program, symbols) = given;
     let name: Name<'_> = ("a crash", row.name);
-    let shown = Cell::new(String::new(rt.alloc()));
     let paper = Paper {
         alloc: rt.alloc(),
-        shown: &shown,
+        shown,
     };
     let mut bench = Bench {
         alloc: rt.alloc(),
@@ -310,7 +314,8 @@ fn expect_row(rt: &(impl Abort + AllocGlobal), given: Given<'_>, row: &Row) {
     };
     expect(rt, name, &mut bench, &job_of(row), ("", row.stderr, 0));
     expect_parts(rt, name, bench.report.as_slice(), row.parts);
-    expect_text(rt, name, shown.into_inner().as_str().as_bytes(), row.shown);
+    let text = shown.replace(String::new(rt.alloc()));
+    expect_text(rt, name, text.as_str().as_bytes(), row.shown);
 }
 
 fn expect_rows(rt: &(impl Abort + AllocGlobal)) {
@@ -318,13 +323,14 @@ fn expect_rows(rt: &(impl Abort + AllocGlobal)) {
     let program = program_of(rt.alloc(), CRASH_WORDS).expect(rt, "memory");
     let mut symbols = vec![in rt.alloc(); 0u8; 222].expect(rt, "memory");
     change(&mut symbols, SYMBOLS);
+    let shown = Cell::new(String::new(rt.alloc()));
     let given = (
         files.image.as_slice(),
         program.as_slice(),
         symbols.as_slice(),
     );
     for row in &ROWS {
-        expect_row(rt, given, row);
+        expect_row(rt, given, &shown, row);
     }
 }
 
