@@ -351,7 +351,8 @@ pub whole-then : {b d : Held} {first mid new : Hart} {ram ram' ram'' : Ram} → 
 whole-then one two = record { inside = two.inside; count = two.count ∙ one.count; root = two.root ∙ one.root }
 
 -- operations of a page after earlier ones
-pub page-then : {a b d : Held} {stops : List ℕ} {first mid : Hart} (new : Hart) (done rest : ℕ) {pc : ℕ} {base : ℕ} (k to : ℕ)
+pub page-then : {a b d : Held} {stops : List ℕ} {first mid : Hart} (new : Hart) (done rest : ℕ) {pc : ℕ} {base : ℕ}
+    (k to : ℕ)
     {ram ram' : Ram} (ram'' : Ram) {count left f : ℕ} (stopped : Option Trap)
     → GoesLeft a b stops first mid pc ram ram' count left f
     → base ≡ first.pc / 4096 * 4096 → pc_at base k ≡ pc → rest + done ≡ left
@@ -402,7 +403,8 @@ pub stop-behind : {held held' : Held} {stops : List ℕ} {old new : Hart} {pc : 
     (base k end done rest : ℕ) → GoesLeft held held' stops old new pc ram ram' count left f
     → pc_at base k ≡ pc → done < end - k → rest + done ≡ left → IsClear stops base k end
     → IsBehind stops (count - rest) old.pc (pc_at base (k + done))
-stop-behind {stops} {old} {pc} {count} {left} base k end done rest before start fewer parts clear = elim (cases_lt 0 done) [
+stop-behind {stops} {old} {pc} {count} {left} base k end done rest before start fewer parts clear =
+    elim (cases_lt 0 done) [
   | inl some ↦ let bounded =
       before.bounded in inl (
         omega (arith, some, parts, bounded),
