@@ -3,7 +3,7 @@ ghost use Rattle.std.specs.Prelude.{IfOk};
 ghost use Rattle.gdbruns.specs.Debugged.{IsDebugged};
 ghost use Rattle.live.specs.Plays.{script_events};
 
-use crate::link::Link;
+use crate::link::{Link, LinkFault};
 use crate::loaded::loads_the_same;
 use crate::recording::write_script;
 use blockdev::MemDisk;
@@ -94,6 +94,23 @@ fn read_script<'a, H: Host>(
     }
 }
 
+// Serves a debugger at standard input and output: what that leaves, and what of these has failed.
+fn debug_link<'a, H: Host, W: Write>(
+    alloc: Global,
+    words: &Gdb<'a>,
+    disk: MemDisk,
+    script: &[Command<'_>],
+    programs: Vec<Program>,
+    host: &mut H,
+    stdout: &mut W,
+) -> Result<(Timeline, Option<LinkFault>), Failure<'a>> {
+    let mut link = Link::new(host, stdout, programs);
+    match debug_run(alloc, words, disk, script, &mut link) {
+        Ok(timeline) => Ok((timeline, link.fault())),
+        Err(failure) => Err(failure),
+    }
+}
+
 // Serves a debugger, and writes the script of what that leaves.
 fn serve<'a, H: Host, W: Write, E: Write>(
     alloc: Global,
@@ -107,12 +124,21 @@ fn serve<'a, H: Host, W: Write, E: Write>(
     let script = script_of(alloc, words.script.unwrap_or(""), bytes.as_slice())?;
     let programs = programs_told(alloc, words, &image, host, stderr)?;
     let disk = disk_of(image)?;
-    let mut link = Link::new(host, stdout, programs);
-    let timeline = debug_run(alloc, words, disk, script.as_slice(), &mut link)?;
-    let failure = link.failure();
+    let (timeline, fault) = match debug_link(
+        alloc,
+        words,
+        disk,
+        script.as_slice(),
+        programs,
+        host,
+        stdout,
+    ) {
+        Ok(debugged) => debugged,
+        Err(failure) => return Err(failure),
+    };
     write_script(alloc, words.recorded, &timeline, host)?;
-    match failure {
-        Some(failure) => Err(failure),
+    match fault {
+        Some(fault) => Err(fault.failure()),
         None => Ok(()),
     }
 }
