@@ -405,18 +405,18 @@ pub stop-behind : {held held' : Held} {stops : List ℕ} {old new : Hart} {pc : 
     → IsBehind stops (count - rest) old.pc (pc_at base (k + done))
 stop-behind {stops} {old} {pc} {count} {left} base k end done rest before start fewer parts clear =
     elim (cases_lt 0 done) [
-  | inl some ↦ let bounded =
-      before.bounded in inl (
-        omega (arith, some, parts, bounded),
-        clear (k + done) (omega (arith, some)) (omega (arith, fewer)),
-      )
-  | inr least ↦
-      let none : done ≡ 0 = omega (arith, least) in
-      let same : k ≡ k + done = omega (arith, none) in
-      let there : pc_at base (k + done) ≡ pc = subst (λ j. pc_at base j ≡ pc) same start in
-      let count : count - left ≡ count - rest = omega (arith, none, parts) in
-      rw (there, ← count) before.behind
-]
+      | inl some ↦ let bounded =
+          before.bounded in inl (
+            omega (arith, some, parts, bounded),
+            clear (k + done) (omega (arith, some)) (omega (arith, fewer)),
+          )
+      | inr least ↦
+          let none : done ≡ 0 = omega (arith, least) in
+          let same : k ≡ k + done = omega (arith, none) in
+          let there : pc_at base (k + done) ≡ pc = subst (λ j. pc_at base j ≡ pc) same start in
+          let count : count - left ≡ count - rest = omega (arith, none, parts) in
+          rw (there, ← count) before.behind
+    ]
 
 -- a program is at a page, whose look-up has this result
 module _ (a : Held) {b : Held} (d : Held) {stops : List ℕ} {first mid : Hart} {ram ram' : Ram} (done : ℕ)

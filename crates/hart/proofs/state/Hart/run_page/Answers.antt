@@ -36,7 +36,7 @@ loop-k-preserved g c =
 pub returns-then-has-clause-goes : goal.returns-then-has-clause-goes
 returns-then-has-clause-goes g c =
     page-then c.straight-done.new.self c.straight-done.result.0 _ c.loop-k.k c.address-pc.result
-        c.straight-done.new.ram None
+    c.straight-done.new.ram None
     c.loop-k.invariant.0 refl refl (omega (arith, c.straight-done.ensures.within, c.first_of-end.ensures.limit))
     (λ mapping at. rw c.address-pc.ensures.is
     (rw c.in-At.is at (c.straight-done.ensures.goes mapping _
@@ -45,7 +45,7 @@ returns-then-has-clause-goes g c =
 pub returns-in_default-clause-goes : goal.returns-in_default-clause-goes
 returns-in_default-clause-goes g c =
     page-then c.straight-done.new.self c.straight-done.result.0 _ c.loop-k.k c.address-pc.result
-        c.straight-done.new.ram None
+    c.straight-done.new.ram None
     c.loop-k.invariant.0 refl refl (omega (arith, c.straight-done.ensures.within, c.first_of-end.ensures.limit))
     (λ mapping at. rw c.address-pc.ensures.is
     (rw c.in-At.is at (c.straight-done.ensures.goes mapping _
