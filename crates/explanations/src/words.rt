@@ -1,9 +1,9 @@
 //! The words that texts and command lines are made of.
 
 /// The commands.
-pub const COMMANDS: [&str; 14] = [
-    "flat", "run", "live", "play", "trace", "mkfs", "check", "ls", "get", "put", "migrate", "asm",
-    "as", "dump",
+pub const COMMANDS: [&str; 15] = [
+    "flat", "run", "live", "play", "trace", "gdb", "mkfs", "check", "ls", "get", "put", "migrate",
+    "asm", "as", "dump",
 ];
 
 /// What a line of a script begins with.
