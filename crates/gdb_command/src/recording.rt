@@ -20,14 +20,14 @@ fn note<R: Record>(record: &mut R, event: Event, times: u32) -> u32 {
     }
 }
 
-// Notes all events.
+// Notes all events: each turn notes one or more.
 fn note_all<R: Record>(timeline: &Timeline, record: &mut R) {
-    let mut at = 0;
-    while at < timeline.count() {
+    let mut at: u64 = 0;
+    for _turn in 0..timeline.count() {
         let Some((event, times)) = timeline.ahead(at) else {
             return;
         };
-        at += u64::from(note(record, event, times));
+        at = at.saturating_add(u64::from(note(record, event, times)));
     }
 }
 
