@@ -119,8 +119,8 @@ class Process:
 
 
 @dataclass(frozen=True)
-class Descriptor:
-    """The open file that a descriptor of a process names."""
+class _Opened:
+    """What a descriptor and the open file that it names have in common."""
 
     file: int
     """The number of the open file: descriptors with the same one share its offset."""
@@ -132,23 +132,20 @@ class Descriptor:
     """In bytes; 0 except in a file."""
     readable: bool
     writable: bool
+
+
+@dataclass(frozen=True)
+class Descriptor(_Opened):
+    """The open file that a descriptor of a process names."""
+
     descriptors: int
     """How many descriptors of all processes name it."""
 
 
 @dataclass(frozen=True)
-class OpenFile:
+class OpenFile(_Opened):
     """An open file, with all descriptors that name it."""
 
-    file: int
-    kind: str
-    """As that of a descriptor."""
-    number: int
-    """The number of its node, or of its pipe."""
-    offset: int
-    """In bytes; 0 except in a file."""
-    readable: bool
-    writable: bool
     holders: Tuple[Tuple[int, int], ...]
     """Pids, each with the descriptor."""
 
