@@ -9,15 +9,10 @@ TOP = pathlib.Path(__file__).resolve().parent.parent
 
 
 def table():
-    """A part a comment of tests.h, with a row a test."""
+    """A row a test of tests.h."""
     text = (TOP / "user-c/selftest/tests.h").read_text()
-    rows = []
-    for comment, name, rule in re.findall(r'^/\* (.*?) \*/$|^TEST\((\w+), "(.*)"\)$', text, re.MULTILINE):
-        if comment:
-            rows += ["", f"### {comment[0].upper()}{comment[1:]}", "", "| test | rule |", "|---|---|"]
-        else:
-            rows.append(f"| `{name}` | {rule} |")
-    return "\n".join(rows).strip() + "\n"
+    rows = re.findall(r'^TEST\((\w+), "(.*)"\)$', text, re.MULTILINE)
+    return "\n".join(["| test | rule |", "|---|---|", *(f"| `{name}` | {rule} |" for name, rule in rows)]) + "\n"
 
 
 def main(words):
