@@ -60,10 +60,10 @@ def steps(place):
         took = [it.seconds / row.count * 1e9 for it in compare([job.command(place) for job in jobs], TURNS)]
         timed.append([row.name, *(f"{it:.2f}" for it in took), *(f"{took[0] / it:.2f}" for it in took[1:])])
     first = {line[0]: float(line[1]) for line in counted}
-    text = "Instructions of the host a step (callgrind, the difference of two sizes by the difference of their steps).\n"
-    text += "`--tlb` of plain Rust is a cache of translations of its own; the twin decodes a word once, the fastest that we know:\n\n"
+    text = "Instructions of the host a step (callgrind, by the difference of two sizes).\n"
+    text += "Plain Rust has a cache of translations with `--tlb`; the twin, which decodes a word once, is the fastest that we know:\n\n"
     text += table(["row", *BESIDE_WORDS], counted)
-    text += f"\n\nNanoseconds a step, processor time, the least of {TURNS} turns in the same run, and the program's ratio to each:\n\n"
+    text += f"\n\nNanoseconds a step, processor time, the least of {TURNS} turns in one run, and the program's ratio to each:\n\n"
     text += table(["row", *BESIDE_WORDS, *(f"by {name}" for name in BESIDE_WORDS[1:])], timed)
     return text, first["tight loop"]
 
@@ -79,7 +79,7 @@ def looking_on(place):
     took = [it.seconds for it in compare([job.command(place) for job in jobs], TURNS)]
     lines = [[f"`{' '.join(job.by)}`", f"{seconds:.3f}", f"{seconds / took[0]:.2f}"] for job, seconds in zip(jobs, took)]
     text = "A run of 10,000,000 steps with 1000 calls: seconds of processor time, the least of "
-    text += f"{TURNS} turns, and the ratio\nto the run that nobody looks on at:\n\n"
+    text += f"{TURNS} turns, and the ratio to the first:\n\n"
     return text + table(["by", "seconds", "ratio"], lines)
 
 
@@ -119,11 +119,11 @@ def units(place):
     counted = []
     for row in [*call_rows(), *(it for it in instructions.all_rows() if not instructions.stands_beside_plain(it))]:
         took = count_unit(row, place)
-        counted.append([row.name, row.unit, figure(sum(took.values())), figure(instructions.own(took))])
-        print(f"  {row.name}: {counted[-1][2]}", file=sys.stderr, flush=True)
-    text = "Instructions of the host for a unit (callgrind), and those without the host's memset, memcpy and memcmp, of which\n"
-    text += "callgrind counts each byte of a page. Calls have the steps of a loop around them in them:\n\n"
-    return text + table(["row", "unit", "instructions", "without filling and copying"], counted)
+        counted.append([f"{row.name}, {row.unit}", figure(sum(took.values())), figure(instructions.own(took))])
+        print(f"  {row.name}: {counted[-1][1]}", file=sys.stderr, flush=True)
+    text = "Instructions of the host a unit (callgrind), also without memset, memcpy, memcmp, of which callgrind counts each byte.\n"
+    text += "Calls have the steps of a loop around them in them:\n\n"
+    return text + table(["row, unit", "instructions", "without"], counted)
 
 
 # ---- tools
@@ -151,7 +151,7 @@ def tools(place):
         took = [f"{it.seconds:.2f} s, {it.peak // 1024} MiB" for it in compare(jobs, TURNS)]
         lines.append([f"{blocks} ({blocks // 1024} MB)", *took])
     text = "Processor time, the program's and the host's for it, the least of three, and the peak of memory.\n"
-    text += "`mkfs` makes an image with two files that fill most of it; the others take an image that is full:\n\n"
+    text += "`mkfs` makes an image that two files fill mostly; the others take a full one:\n\n"
     return text + table(["blocks", "`mkfs`", "`check`", "`run` of 100 steps", "with `--save`"], lines)
 
 
@@ -190,10 +190,8 @@ def page_row(page, place):
     [prompt], (compiled, first, best), (count, whole, copies, back), (rate, noted) = numbers
     more = f"""
 
-The page's first prompt comes {prompt} ms after the load begins; its module is compiled in {compiled} ms.
-A later boot takes {best} ms.
-{int(count):,} steps are replayed in {whole} ms, and back by one of them takes {back} ms at most, with {copies} copies kept.
-With each call noted it makes {noted} million steps a second."""
+The page: first prompt {prompt} ms after the load begins, module compiled in {compiled} ms, a later boot {best} ms, {int(count):,} steps
+replayed in {whole} ms, back by one {back} ms at most with {copies} copies, {noted} million steps a second with each call noted."""
     return [size_of(page), f"{first} ms", f"{float(rate):.0f}"], more
 
 
@@ -215,8 +213,8 @@ def stacks(folder):
     most = sorted(STACK_BEFORE, key=lambda name: -taken[name])
     rest = max(number for name, number in taken.items() if name not in STACK_BEFORE)
     rows_of = [[f"`{name}`", f"{taken[name]:,}", f"{STACK_BEFORE[name]:,}"] for name in most]
-    text = "\n\nBytes of the stack that a call takes in its thread (`bench/stack.c`); the old ones are of when the slots of processes\n"
-    text += "lay in the table itself, in a library that was compiled unproved, with checks.\n"
+    text = "\n\nBytes of the stack that a call takes (`bench/stack.c`); the old ones, of a library compiled unproved, with checks, while\n"
+    text += "the slots of processes were in the table itself.\n"
     text += f"Each other function takes at most {rest:,}.\n\n"
     return text + table(["function", "stack", "old stack"], rows_of)
 
@@ -234,8 +232,7 @@ def library(place):
     if page.exists() and any(map(shutil.which, ("chromium", "chromium-browser", "google-chrome"))):
         now[list(BEFORE)[-1]], more = page_row(page, place)
     head = ["", "size", "boot of 2 MB", "million steps a second", "old size", "old boot", "old steps"]
-    text = "`bench/library.py` times the library from C and from Python beside the program, `web/measure.py` the page.\n"
-    text += "The old ones are of 2026-11-26, when the library made no images, and the page had no views, times and exercises.\n\n"
+    text = "By `bench/library.py` and `web/measure.py`; the old ones are of 2026-11-26.\n\n"
     return text + table(head, [[name, *numbers, *BEFORE[name]] for name, numbers in now.items()]) + more + stack
 
 
@@ -258,14 +255,14 @@ def lines():
     kinds = {
         "code": lines_of("crates/*/src/**/*.rt"),
         "definitions": lines_of("crates/*/specs/**/*.antt"),
-        "definitions of the Unix, among these": lines_of("crates/unixmodel/specs/**/*.antt"),
+        "definitions of the Unix": lines_of("crates/unixmodel/specs/**/*.antt"),
         "proofs": lines_of("crates/*/proofs/**/*.antt"),
     }
     edits = [len(list(TOP.glob(f"crates/*/{it}/*.edit"))) for it in ("must-fail", "edits")]
-    text = f"`wc -l` over `crates/*/src`, `specs` and `proofs`, and without comments, blanks and imports.\n"
-    text += f"There are {edits[0]} wrong bodies in the gate, and {edits[1]} more:\n\n"
+    text = "Of `crates/*/src`, `specs` and `proofs`, and without comments, blanks, imports.\n"
+    text += f"Wrong bodies: {edits[0]} in the gate, {edits[1]} more.\n\n"
     rows_of = [[name, f"{whole:,}", f"{own:,}"] for name, (whole, own) in kinds.items()]
-    return text + table(["kind", "lines", "without comments, blanks, imports"], rows_of), kinds
+    return text + table(["kind", "lines", "without"], rows_of), kinds
 
 
 NOTED = {"gate": "the gate, from nothing", "build": "the program, from nothing"}
@@ -309,8 +306,7 @@ def head(given):
 `make measure` (`bench/report.py`) writes this page whole: commit {commit}, {today}.
 The machine: {machine()}.
 The program: {len(program):,} bytes, whose SHA-256 begins with {hashlib.sha256(program).hexdigest()[:16]}.
-Counts of instructions are exact, and the same in each run of one program; times are not, beside other work.
-What a page measures by hand is in that page.
+Counts of instructions are the same in each run of one program; times are not, beside other work.
 """
 
 
