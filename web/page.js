@@ -1,4 +1,4 @@
-// The page: a machine, what it is given by buttons and keys, and what is shown of it in three views over one line of time.
+// The page: a machine, what it is given by buttons and keys, and what is shown of it in four views over one line of time.
 import { countsText, drawBar, positionAt, positionText } from "./bar.js";
 import { programOf, waitOf } from "./descriptors.js";
 import { Disk } from "./disk.js";
@@ -242,7 +242,7 @@ class Page {
     this.refresh();
   }
 
-  /** Shows one of the three views. */
+  /** Shows one of the views. */
   lookIn(view) {
     this.view = VIEWS.includes(view) && (view !== "write" || this.workshop) ? view : "run";
     for (const name of VIEWS) {
