@@ -443,7 +443,16 @@ def module_of(path: pathlib.Path) -> types.ModuleType:
     spec = importlib.util.spec_from_file_location(f"rubric_{path.stem}", path)
     assert spec and spec.loader
     module = importlib.util.module_from_spec(spec)
-    spec.loader.exec_module(module)
+    try:
+        spec.loader.exec_module(module)
+    except ModuleNotFoundError:
+        if "site" in sys.modules:
+            raise
+        # class.sh starts Python without the packages that are installed beside it.
+        import site
+
+        site.main()
+        spec.loader.exec_module(module)
     return module
 
 
