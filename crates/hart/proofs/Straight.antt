@@ -7,7 +7,7 @@ use Rattle.hart.proofs.Common.{point_at, Reaches, refl, RunsTo, seen, Shows, Sig
 use Rattle.hart.proofs.Common.{trap, trap_of, walk_page-inside, word_by, word_in, ℕ, ◌/◌, ◌∙◌, ◌≡◌, [], arith, Behind}
 use Rattle.hart.proofs.Common.{GoesOn, IsOp, number, Op, op_by, pc_at, plus, point_of, slice_index_or, slice_range}
 use Rattle.hart.proofs.Common.{StaysWhole, word_of, ◌%◌, ◌*◌, ◌+◌, ◌-◌, ◌<◌, ◌^◌, ◌≤◌, ◌==◌, false, cases_lt, get_or}
-use Rattle.hart.proofs.Common.{length, ne_eqb, take, IsBehind, IsClear, IsPast, is_stop}
+use Rattle.hart.proofs.Common.{length, ne_eqb, take, IsBehind, IsClear, IsFree, IsPast, is_stop}
 use Rattle.std.proofs.lemmas.List.Folds.{list_any_more}
 use Rattle.sv39.proofs.Placed.{coherent-kept, shows-coherent}
 use Rattle.hart.proofs.ChangeLemmas.{cycle-only, cycle-stores}
@@ -206,6 +206,19 @@ acts-worded o f {next} {pc} {old} {new} {ram} {ram'} is same acts =
 pub less-clear : (stops : List ℕ) (base : ℕ) {from to end : ℕ} → to ≤ end → IsClear stops base from end
     → IsClear stops base from to
 less-clear stops base within clear j more less = clear j more (omega (arith, within, less))
+
+-- words after one that are free of stops are clear up to the end of these
+pub free-clear : (stops : List ℕ) (base : ℕ) {from to k end : ℕ} → from ≤ k + 1 → end ≤ to → IsFree stops base from to
+    → IsClear stops base k end
+free-clear stops base first last free j more less = free j (omega (arith, first, more)) (omega (arith, last, less))
+
+-- a word at no stop and the clear ones after it are free of stops
+pub clear-free : (stops : List ℕ) (base : ℕ) {k end : ℕ} → is_stop stops (pc_at base k) ≡ false
+    → IsClear stops base k end → IsFree stops base k end
+clear-free stops base {k} {end} start clear j since less = elim (cases_lt k j) [
+  | inl more ↦ clear j more less
+  | inr same ↦ let at : j ≡ k = omega (arith, since, same) in rw at start
+]
 
 -- one more address, which is at no index up to there
 pub clear-more : (stops : List ℕ) (i base k end to : ℕ) → i < length stops → IsClear (take i stops) base k end

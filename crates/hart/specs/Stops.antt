@@ -1,5 +1,5 @@
 -- Addresses at which a run stops: it goes on from the one that it begins at, and no further than to the next.
-use Rattle.std.specs.Prelude.{Bool, List, false, true, ℕ, ◌*◌, ◌<◌, ◌==◌, ◌≡◌, ◌⊎◌}
+use Rattle.std.specs.Prelude.{Bool, List, false, true, ℕ, ◌*◌, ◌<◌, ◌==◌, ◌≤◌, ◌≡◌, ◌⊎◌}
 use Rattle.std.specs.List.{list_any}
 use Rattle.unixmodel.specs.Numbers.{plus}
 
@@ -21,6 +21,10 @@ IsBehind stops done old new = ((0 < done) × (is_stop stops new ≡ false)) ⊎ 
 -- no word of a page between two is at a stop
 abbrev pub IsClear : List ℕ → ℕ → ℕ → ℕ → Type 0
 IsClear stops base from to = (j : ℕ) → from < j → j < to → is_stop stops (pc_at base j) ≡ false
+
+-- no word of a page from one up to another is at a stop
+abbrev pub IsFree : List ℕ → ℕ → ℕ → ℕ → Type 0
+IsFree stops base from to = (j : ℕ) → from ≤ j → j < to → is_stop stops (pc_at base j) ≡ false
 
 -- as many are done as were requested, or the next one is at a stop
 abbrev pub EndsAt : List ℕ → ℕ → ℕ → ℕ → Type 0

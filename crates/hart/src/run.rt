@@ -4,21 +4,21 @@
 //! references of their own, and the index in the page as a local. A jump in the page leads to another index, and a
 //! hart's pc is written where the page is left.
 ghost use Rattle.std.specs.Prelude.{◌≡◌, ◌%◌, ◌/◌, ◌<◌, ◌≤◌, ◌+◌, ◌-◌, ◌*◌, ℕ, Err, IfNone, IfSome, List, None, Some};
-ghost use Rattle.std.specs.Prelude.{length};
+ghost use Rattle.std.specs.Prelude.{false, length};
 ghost use Rattle.unixmodel.specs.Translation.{HoldsInside};
 ghost use Rattle.unixmodel.specs.Words.{instruction_of};
 ghost use Rattle.sv39.specs.Mapping.{Mapped, frame_for};
 ghost use Rattle.hart.specs.Acts.{Acts, trap_of};
 ghost use Rattle.hart.specs.Answered.{word_by};
 ghost use Rattle.hart.specs.Runs.{GoesOn, MovesOn, StaysWhole, goes_to, point_at, point_of, word_in};
-ghost use Rattle.hart.specs.Stops.{EndsAt, IsBehind, IsClear, pc_at};
+ghost use Rattle.hart.specs.Stops.{EndsAt, IsBehind, IsClear, IsFree, is_stop, pc_at};
 
 use crate::access::locate;
 use crate::act::{Aligned, Next};
 use crate::decoded::{Decoded, Page};
 use crate::in_page::InPage;
 use crate::state::Hart;
-use crate::stops::Stops;
+use crate::stops::{Stops, Stretch};
 use ram::{FrameNo, Ram};
 use sv39::Translate;
 use unixmodel::trap::{Access, Cause, Trap};
@@ -45,6 +45,28 @@ fn index_in(base: u64, to: Aligned) -> Option<usize>
         return None;
     }
     Some((offset / 4) as usize)
+}
+
+// The index of a word in the page at `base`, and a stretch without a stop in which it is, if it is in the page and at
+// no stop.
+#[inline(always)]
+fn goes_to_word<S: Stops>(
+    stops: &S,
+    base: u64,
+    to: Aligned,
+    known: Stretch,
+) -> Option<(usize, Stretch)>
+    requires page { base % 4096 ≡ 0 }
+    requires known { IsFree (S.addresses stops.now) base known.from known.to }
+    requires within { known.to ≤ 1024 }
+    ensures at { IfSome result (λ r. (r.0 < 1024) × (pc_at base r.0 ≡ to)) }
+    ensures past { IfSome result (λ r. is_stop (S.addresses stops.now) to ≡ false) }
+    ensures free { IfSome result (λ r. IsFree (S.addresses stops.now) base r.1.from r.1.to) }
+    ensures inside { IfSome result (λ r. (r.1.from ≤ r.0) × (r.0 < r.1.to) × (r.1.to ≤ 1024)) }
+{
+    let index = index_in(base, to)?;
+    let stretch = stops.free_at(base, index, known)?;
+    Some((index, stretch))
 }
 
 impl Hart {
@@ -140,23 +162,23 @@ impl Hart {
     {
         let base = self.pc / 4096 * 4096;
         let mut k = (self.pc % 4096 / 4) as usize;
+        let mut free = Stretch {
+            from: k + 1,
+            to: stops.clear_to(base, k),
+        };
         // where the count ends, if no operation jumps
         let mut limit = k + count as usize;
         while k < limit {
-            let end = first_of(k, limit, stops.clear_to(base, k));
+            let end = first_of(k, limit, free.to);
             let (done, next) = self.straight::<T, S>(page, f, base, k, end, ram, trans);
             let left = limit - (k + done);
             match next {
                 Next::At(to) => {
-                    let pc = to.address();
-                    if stops.has(pc) {
-                        self.pc = pc;
-                        return (left as u32, None);
-                    }
-                    let Some(index) = index_in(base, to) else {
-                        self.pc = pc;
+                    let Some((index, stretch)) = goes_to_word(stops, base, to, free) else {
+                        self.pc = to.address();
                         return (left as u32, None);
                     };
+                    free = stretch;
                     k = index;
                     limit = k + left;
                 }

@@ -1,6 +1,15 @@
 //! Addresses at which a run of many instructions stops.
-ghost use Rattle.std.specs.Prelude.{ℕ, List, ◌≡◌, ◌%◌, ◌<◌, ◌≤◌};
-ghost use Rattle.hart.specs.Stops.{IsClear, is_stop, pc_at};
+ghost use Rattle.std.specs.Prelude.{ℕ, IfSome, List, is_some, not, ◌≡◌, ◌%◌, ◌<◌, ◌≤◌};
+ghost use Rattle.hart.specs.Stops.{IsClear, IsFree, is_stop, pc_at};
+
+/// Words of a page, from one up to another, which is not one of them.
+#[derive(Clone, Copy)]
+pub struct Stretch {
+    /// The index of the first.
+    pub from: usize,
+    /// The index after the last.
+    pub to: usize,
+}
 
 /// Addresses at which a run stops. In contracts they are a list.
 pub trait Stops {
@@ -17,6 +26,17 @@ pub trait Stops {
         requires page { base % 4096 ≡ 0 }
         ensures within { (k < result) × (result ≤ 1024) }
         ensures clear { IsClear (addresses self.now) base k result };
+
+    /// A stretch of the page at `base` without any of them, in which word `index` is; none if this word is at one of
+    /// them. What is known of such words spares a search.
+    fn free_at(&self, base: u64, index: usize, known: Stretch) -> Option<Stretch>
+        requires place { index < 1024 }
+        requires page { base % 4096 ≡ 0 }
+        requires known { IsFree (addresses self.now) base known.from known.to }
+        requires within { known.to ≤ 1024 }
+        ensures some { is_some result ≡ not (is_stop (addresses self.now) (pc_at base index)) }
+        ensures free { IfSome result (λ s. IsFree (addresses self.now) base s.from s.to) }
+        ensures inside { IfSome result (λ s. (s.from ≤ index) × (index < s.to) × (s.to ≤ 1024)) };
 }
 
 /// None.
@@ -36,6 +56,11 @@ impl Stops for NoStops {
     #[inline(always)]
     fn clear_to(&self, _base: u64, _k: usize) -> usize {
         1024
+    }
+
+    #[inline(always)]
+    fn free_at(&self, _base: u64, _index: usize, _known: Stretch) -> Option<Stretch> {
+        Some(Stretch { from: 0, to: 1024 })
     }
 }
 
@@ -77,5 +102,19 @@ impl Stops for Breakpoints<'_> {
             end = clear_of(*address, base, k, end);
         }
         end
+    }
+
+    #[inline]
+    fn free_at(&self, base: u64, index: usize, known: Stretch) -> Option<Stretch> {
+        if known.from <= index && index < known.to {
+            return Some(known);
+        }
+        if self.has(base.wrapping_add(4 * index as u64)) {
+            return None;
+        }
+        Some(Stretch {
+            from: index,
+            to: self.clear_to(base, index),
+        })
     }
 }

@@ -1,5 +1,5 @@
 use Rattle.hart.proofs.Common.{arith, IsClear, None, plus, refl, Some, sym, ◌*◌, ◌+◌, ◌-◌, ◌/◌, ◌∙◌, ◌≡◌}
-use Rattle.hart.proofs.Straight.{left-begins, left-on, less-clear, page-then, pc-of, stop-behind}
+use Rattle.hart.proofs.Straight.{clear-free, free-clear, left-begins, left-on, page-then, pc-of, stop-behind}
 use Rattle.hart.proofs.state.Hart.run_page.Given as given
 use Rattle.hart.proofs.state.Hart.run_page.Goals as goal
 use Rattle.hart.proofs.state.Hart.run_page.Goals.{After-straight-done}
@@ -8,11 +8,17 @@ use Rattle.hart.proofs.state.Hart.run_page.Goals.{After-straight-done}
 clear : (g : given.Over) (c : After-straight-done g)
     → IsClear (g.S.Stops.addresses c.args.stops.now) (c.args.self.now.pc / 4096 * 4096) c.loop-k.k
     c.first_of-end.result
-clear g c = less-clear _ _ c.first_of-end.ensures.end c.clear_to.ensures.clear
+clear g c =
+    let free = c.loop-k.invariant.4 in
+    free-clear _ _ c.loop-k.invariant.5 c.first_of-end.ensures.end free
 
 pub loop-k-init : goal.loop-k-init
 loop-k-init g c = (
   left-begins _ _ c.requires.inside (pc-of (omega arith) c.args.self.now.aligned refl refl) (omega arith),
+  omega arith,
+  omega arith,
+  omega arith,
+  (λ j since less. c.clear_to.ensures.clear j (omega (arith, since)) less),
   omega arith,
   omega arith,
   omega arith,
@@ -21,33 +27,27 @@ loop-k-init g c = (
 pub loop-k-preserved : goal.loop-k-preserved
 loop-k-preserved g c =
     let some = rw c.in-At.is at c.straight-done.ensures.moves in (
-      left-on c.straight-done.new.self c.loop-k.k c.in-Some.index c.address-pc.result
+      left-on c.straight-done.new.self c.loop-k.k c.in-Some.index (c.in-At.to)
           c.straight-done.new.ram c.loop-k.invariant.0 refl some
           (omega (arith, c.straight-done.ensures.within, c.first_of-end.ensures.limit)) c.straight-done.ensures.whole
-          (sym c.if-has.ensures) (c.in-Some.ensures.1 ∙ sym c.address-pc.ensures.is)
-          (λ mapping at. rw c.address-pc.ensures.is
-          (rw c.in-At.is at (c.straight-done.ensures.goes mapping _
+          c.in-Some.ensures.past c.in-Some.ensures.at.1
+          (λ mapping at. (rw c.in-At.is at (c.straight-done.ensures.goes mapping _
           at (clear g (goal.at.loop-k-preserved g c).After-straight-done)))),
-      c.in-Some.ensures.0,
+      c.in-Some.ensures.at.0,
       omega arith,
       omega (arith, c.loop-k.invariant.3),
+      c.in-Some.ensures.free,
+      omega (arith, c.in-Some.ensures.inside.0),
+      c.in-Some.ensures.inside.1,
+      c.in-Some.ensures.inside.2,
     )
-
-pub returns-then-has-clause-goes : goal.returns-then-has-clause-goes
-returns-then-has-clause-goes g c =
-    page-then c.straight-done.new.self c.straight-done.result.0 _ c.loop-k.k c.address-pc.result
-    c.straight-done.new.ram None
-    c.loop-k.invariant.0 refl refl (omega (arith, c.straight-done.ensures.within, c.first_of-end.ensures.limit))
-    (λ mapping at. rw c.address-pc.ensures.is
-    (rw c.in-At.is at (c.straight-done.ensures.goes mapping _
-    at (clear g (goal.at.returns-then-has-clause-goes g c).After-straight-done))))
 
 pub returns-in_default-clause-goes : goal.returns-in_default-clause-goes
 returns-in_default-clause-goes g c =
-    page-then c.straight-done.new.self c.straight-done.result.0 _ c.loop-k.k c.address-pc.result
+    page-then c.straight-done.new.self c.straight-done.result.0 _ c.loop-k.k c.address-self.result
     c.straight-done.new.ram None
     c.loop-k.invariant.0 refl refl (omega (arith, c.straight-done.ensures.within, c.first_of-end.ensures.limit))
-    (λ mapping at. rw c.address-pc.ensures.is
+    (λ mapping at. rw c.address-self.ensures.is
     (rw c.in-At.is at (c.straight-done.ensures.goes mapping _
     at (clear g (goal.at.returns-in_default-clause-goes g c).After-straight-done))))
 
