@@ -15,8 +15,8 @@ use Rattle.schedules.proofs.Staying.{after-tick, count_in, still-ahead}
 use Rattle.schedules.proofs.Ticks.{written-at}
 use Rattle.schedules.proofs.Steps.{local-keeps, running-stays, step-private}
 use Rattle.schedules.specs.Coarse.{ComesToCall, InterruptsBeforeCallsSuffice, InterruptsWithinSuffice, IsCoarse}
-use Rattle.schedules.specs.Coarse.{IsPlaced}
-use Rattle.schedules.specs.Coarse.{Reduced, RunsOn, ShowsSame, interrupts, shown}
+use Rattle.schedules.specs.Coarse.{Interruption, IsPlaced, Reduced, RunsOn, ShowsSame, interruptions, interrupts}
+use Rattle.schedules.specs.Coarse.{none_if_halted, shown, with_interrupt}
 use Rattle.schedules.specs.Holding.{acting, acts_in_step, acts_in_turn, held, is_waiting, is_waiting_mode}
 use Rattle.schedules.specs.Holding.{reworked}
 use Rattle.schedules.specs.Schedules.{ComputesFor, after_steps, computed, computes, computes_in}
@@ -38,6 +38,7 @@ record Follows (Endless : State → Type 0) (t s : State) (events : List Event) 
   coarse : List Event
   placed : IsCoarse Endless t coarse
   same : interrupts coarse ≡ interrupts events
+  meet : interruptions t coarse ≡ interruptions s events
   shows : ShowsSame (run t coarse) (run s events)
 
 unless-none : (t : State) (Rest : State → Type 0) (h : Option ℤ) → (h ≡ None → Rest t) → UnlessHalted t Rest h
@@ -62,6 +63,10 @@ module _ (t : State) (r : ℕ) (goes : t.halted ≡ None) (runs : running t ≡ 
   unfolding run
   run-step events = goes-on (next t Step) (λ u. run u events) goes-still (ap (λ (a : After). a.bytes) after-one)
 
+  meet-step : (events : List Event) → interruptions t (Step ∷ events) ≡ interruptions (next t Step).state events
+  unfolding interruptions
+  meet-step events = ap (λ h. none_if_halted h (interruptions (next t Step).state events)) goes-still
+
   step-first : (Endless : State → Type 0) (s : State) (events : List Event)
       → Follows Endless (next t Step).state s events → Follows Endless t s events
   unfolding IsCoarse interrupts
@@ -73,6 +78,7 @@ module _ (t : State) (r : ℕ) (goes : t.halted ≡ None) (runs : running t ≡ 
           (λ goes. rest.placed),
     );
     same = rest.same;
+    meet = meet-step rest.coarse ∙ rest.meet;
     shows = subst (λ a. ShowsSame a (run s events)) (sym (run-step rest.coarse)) rest.shows;
   }
 
@@ -98,13 +104,41 @@ shows-next b a some other u None is bytes state rest =
     })
 
 -- what comes after it, if it doesn't halt
+record Later (Endless : State → Type 0) (t s : State) (events : List Event) (h : Option ℤ) : Type 0 where
+  coarse : List Event
+  same : interrupts coarse ≡ interrupts events
+  placed : h ≡ None → IsCoarse Endless t coarse
+  meet : none_if_halted h (interruptions t coarse) ≡ none_if_halted h (interruptions s events)
+  shows : h ≡ None → ShowsSame (run t coarse) (run s events)
+
 coarse-after : (Endless : State → Type 0) (t s : State) (events : List Event) (h : Option ℤ)
-    → (h ≡ None → Follows Endless t s events)
-    → (c : List Event) × (interrupts c ≡ interrupts events) × (h ≡ None → IsCoarse Endless t c)
-    × (h ≡ None → ShowsSame (run t c) (run s events))
-coarse-after Endless t s events (Some status) rest = (events, refl, λ goes. absurd cc, λ goes. absurd cc)
+    → (h ≡ None → Follows Endless t s events) → Later Endless t s events h
+coarse-after Endless t s events (Some status) rest = record {
+  coarse = events;
+  same = refl;
+  placed = λ goes. absurd cc;
+  meet = refl;
+  shows = λ goes. absurd cc;
+}
 coarse-after Endless t s events None rest =
-    let more = rest refl in (more.coarse, more.same, λ goes. more.placed, λ goes. more.shows)
+    let more = rest refl in record {
+      coarse = more.coarse;
+      same = more.same;
+      placed = λ goes. more.placed;
+      meet = more.meet;
+      shows = λ goes. more.shows;
+    }
+
+-- an interrupt meets what shows
+meets-same : (s t : State) (e : Event) (some other : List Interruption) → shown t ≡ shown s → some ≡ other
+    → with_interrupt t e some ≡ with_interrupt s e other
+meets-same s t Step some other same later = later
+meets-same s t Tick some other same later =
+    ap (λ (x : State). let i : Interruption = record { event = Tick; meets = x } in i ∷ some) same
+    ∙ ap (λ is. let i : Interruption = record { event = Tick; meets = shown s } in i ∷ is) later
+meets-same s t (Key b) some other same later =
+    ap (λ (x : State). let i : Interruption = record { event = Key b; meets = x } in i ∷ some) same
+    ∙ ap (λ is. let i : Interruption = record { event = Key b; meets = shown s } in i ∷ is) later
 
 module _ (Endless : State → Type 0) (k : ℕ → ℕ) (s : State) (e : Event) (events : List Event)
     (may : IsAhead k s) (level : (n : ℕ) → acting s e ≡ Some n → k n ≡ 0)
@@ -114,7 +148,7 @@ module _ (Endless : State → Type 0) (k : ℕ → ℕ) (s : State) (e : Event) 
 
   same-first : ((next s e).state.halted ≡ None → Follows Endless (ahead k (next s e).state) (next s e).state events)
       → Follows Endless (ahead k s) s (e ∷ events)
-  unfolding IsCoarse run
+  unfolding IsCoarse run interruptions
   same-first rest =
       let a = next s e in
       let b = next (ahead k s) e in
@@ -123,16 +157,19 @@ module _ (Endless : State → Type 0) (k : ℕ → ℕ) (s : State) (e : Event) 
       let state : b.state ≡ ahead k a.state = ap (λ (c : After). c.state) event-ahead in
       let more = coarse-after Endless (ahead k a.state) a.state events a.state.halted rest in
       record {
-        coarse = e ∷ more.0;
+        coarse = e ∷ more.coarse;
         placed = (
           fits,
-          unless-none b.state (λ u. IsCoarse Endless u more.0) b.state.halted
-              (λ goes. subst (λ u. IsCoarse Endless u more.0) (sym state) (more.2 (sym halts ∙ goes))),
+          unless-none b.state (λ u. IsCoarse Endless u more.coarse) b.state.halted
+              (λ goes. subst (λ u. IsCoarse Endless u more.coarse) (sym state) (more.placed (sym halts ∙ goes))),
         );
-        same = interrupts-more e more.0 events more.1;
-        shows = shows-next b a (λ u. run u more.0) (λ u. run u events) b.state.halted a.state.halted halts
+        same = interrupts-more e more.coarse events more.same;
+        meet = meets-same s (ahead k s) e _ _ (shown-ahead k s)
+            (ap (λ h. none_if_halted h (interruptions b.state more.coarse)) halts
+            ∙ ap (λ u. none_if_halted a.state.halted (interruptions u more.coarse)) state ∙ more.meet);
+        shows = shows-next b a (λ u. run u more.coarse) (λ u. run u events) b.state.halted a.state.halted halts
             (ap (λ (c : After). c.bytes) event-ahead) (ap shown state ∙ shown-ahead k a.state)
-            (λ goes. subst (λ u. ShowsSame (run u more.0) (run a.state events)) (sym state) (more.3 goes));
+            (λ goes. subst (λ u. ShowsSame (run u more.coarse) (run a.state events)) (sym state) (more.shows goes));
       }
 
 -- ---- who is ahead after a step of its own
@@ -315,6 +352,9 @@ module _ (Endless : State → Type 0) (events : List Event) (rest : Reduces Endl
         coarse = later.coarse;
         placed = subst (λ u. IsCoarse Endless u later.coarse) (sym made) later.placed;
         same = later.same;
+        meet = ap (λ u. interruptions u later.coarse) made ∙ later.meet
+            ∙ sym (meet-step s r goes runs done events
+            ∙ ap (λ (a : After). interruptions a.state events) (step-private s r runs done));
         shows = subst (λ u. ShowsSame (run u later.coarse) (run s (Step ∷ events))) (sym made)
             (subst (ShowsSame (run (ahead (with_count r m k) t) later.coarse))
             (sym (run-step s r goes runs done events
@@ -338,11 +378,12 @@ module _ (Endless : State → Type 0) (events : List Event) (rest : Reduces Endl
 
 module _ (Endless : State → Type 0) (decide : (s : State) → ComesToCall s ⊎ Endless s) where
   reduces : (events : List Event) → Reduces Endless events
-  unfolding IsCoarse run
+  unfolding IsCoarse run interruptions
   reduces [] s k goes may = record {
     coarse = [];
     placed = tt;
     same = refl;
+    meet = refl;
     shows = record { bytes = refl; state = shown-ahead k s };
   }
   reduces (Step ∷ events) s k goes may = step-reduces Endless events (reduces events) s k goes may
@@ -353,7 +394,13 @@ module _ (Endless : State → Type 0) (decide : (s : State) → ComesToCall s �
   ticks-before-calls s events goes =
       let found = subst (λ t. Follows Endless t s events) (level s)
       (reduces events s (λ n. 0) goes (none-ahead s)) in
-      record { coarse = found.coarse; placed = found.placed; same = found.same; shows = found.shows }
+      record {
+        coarse = found.coarse;
+        placed = found.placed;
+        same = found.same;
+        meet = found.meet;
+        shows = found.shows;
+      }
 
 -- ---- how far one looks
 

@@ -3,7 +3,8 @@ use Rattle.std.proofs.Common.{[], ap, Bool, false, length, List, nat_le, None, O
 use Rattle.std.proofs.Common.{sym, true, zero, ℕ, ℤ, ◌%◌, ◌+◌, ◌-◌, ◌^◌, ◌∙◌, ◌∷◌, ◌≡◌}
 use Rattle.std.proofs.lemmas.List.Quantifiers.{position-Some}
 use Rattle.std.specs.Prelude.{if◌then◌else◌, is_none, is_some, option_map, ◌&&◌, ◌==◌, ◌||◌}
-use Rattle.schedules.proofs.Views.{IsFair, IsFresh, IsPlain, View, change-at, frames-in, free-in, mode_in, pending_in}
+use Rattle.schedules.proofs.Views.{IsFair, IsFresh, IsPlain, IsTimely, View, change-at, frames-in, free-in, mode_in}
+use Rattle.schedules.proofs.Views.{pending_in, timely}
 use Rattle.schedules.proofs.Views.{places_in, plain_in, process_in, put-plain, set-at, slot-at, state_in, status-in}
 use Rattle.schedules.proofs.Views.{where-in, within-in, zombie-in}
 use Rattle.schedules.specs.Alike.{is_uptime}
@@ -358,18 +359,19 @@ begins-in v s p number fair time = ap (λ n. record (pending_of number s p) { si
     (sym (ap (v.since number) time ∙ fair.begins number))
 
 -- a sleeper has waited as long
-pub slept-in : (v : View) (s : State) (w : Pending) → IsFair v → s.ticks ≡ v.now → w.number ≡ Sleep
+pub slept-in : (v : View) (s : State) (w : Pending) → IsTimely v → s.ticks ≡ v.now → w.number ≡ Sleep
     → has_slept (state_in v s) (pending_in v w) ≡ has_slept s w
 unfolding state_in
-slept-in v s w fair time sleeps =
+slept-in v s w timely time sleeps =
     ap (λ c. nat_le (sleep_time w) ((v.clock + (2 ^ 32 - v.since c w.since)) % 2 ^ 32)) sleeps
-    ∙ ap (λ n. nat_le (sleep_time w) n) (fair.slept w.since)
+    ∙ ap (λ n. nat_le (sleep_time w) n) (timely.slept w.since)
     ∙ ap (λ n. nat_le (sleep_time w) ((n + (2 ^ 32 - w.since)) % 2 ^ 32)) (sym time)
 
 sleep-on-agrees : GoesOnAgrees sleep_on Sleep
 unfolding sleep_on
 sleep-on-agrees v s i p w fair time plain sleeps =
-    agrees-either v (has_slept s w) _ _ _ _ _ (slept-in v s w fair time sleeps) (seen-refl v s time, refl, refl)
+    agrees-either v (has_slept s w) _ _ _ _ _ (slept-in v s w (timely v fair) time sleeps)
+    (seen-refl v s time, refl, refl)
     (seen-refl v s time, refl)
 
 -- ---- read and write

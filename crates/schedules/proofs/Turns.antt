@@ -5,7 +5,8 @@ use Rattle.std.specs.Prelude.{find, if◌then◌else◌, is_some, negsuc, option
 use Rattle.schedules.proofs.Going.{SeenAfter, after-quiet, at-in, begun-in, begun-plain, call-in, changed-in}
 use Rattle.schedules.proofs.Going.{end-in, resume-in}
 use Rattle.schedules.proofs.Rows.{seen-places, seen-refl, slept-in, zombie-child-in}
-use Rattle.schedules.proofs.Views.{IsFair, IsFresh, IsPlain, View, mode_in, pending_in, plain-is, plain_in, process_in}
+use Rattle.schedules.proofs.Views.{IsFair, IsFresh, IsPlain, IsTimely, View, mode_in, pending_in, plain-is, plain_in}
+use Rattle.schedules.proofs.Views.{process_in, timely}
 use Rattle.schedules.proofs.Views.{running-in, state_in, where-in}
 use Rattle.schedules.specs.Alike.{asks, asks_as, asks_at, asks_in, is_uptime}
 use Rattle.schedules.specs.Holding.{acts_in_step, acts_in_turn, is_waiting, is_waiting_mode}
@@ -27,41 +28,44 @@ use Rattle.unixmodel.specs.declared.process.Pending.{Pending}
 
 -- ---- who is ready
 
-go-on-in : (v : View) (s : State) (i : ℕ) (p : Process) (w : Pending) (number : Call) → IsFair v → s.ticks ≡ v.now
+go-on-in : (v : View) (s : State) (i : ℕ) (p : Process) (w : Pending) (number : Call) → IsTimely v → s.ticks ≡ v.now
     → w.number ≡ number
     → can_go_on (state_in v s) (process_in v i p) (pending_in v w) number ≡ can_go_on s p w number
 unfolding state_in
-go-on-in v s i p w Wait fair time same = ap is_some (zombie-child-in v s p.pid)
-go-on-in v s i p w Read fair time same = refl
-go-on-in v s i p w Write fair time same = refl
-go-on-in v s i p w Sleep fair time same = slept-in v s w fair time same
-go-on-in v s i p w _ fair time same = refl
+go-on-in v s i p w Wait timed time same = ap is_some (zombie-child-in v s p.pid)
+go-on-in v s i p w Read timed time same = refl
+go-on-in v s i p w Write timed time same = refl
+go-on-in v s i p w Sleep timed time same = slept-in v s w timed time same
+go-on-in v s i p w _ timed time same = refl
 
-ready-in-in : (v : View) (s : State) (i : ℕ) (p : Process) (m : Mode) → IsFair v → s.ticks ≡ v.now
+ready-in-in : (v : View) (s : State) (i : ℕ) (p : Process) (m : Mode) → IsTimely v → s.ticks ≡ v.now
     → is_ready_in (state_in v s) (process_in v i p) (mode_in v m) ≡ is_ready_in s p m
-ready-in-in v s i p Running fair time = refl
-ready-in-in v s i p Ready fair time = refl
-ready-in-in v s i p (Waiting w) fair time = ap (λ b. b || p.killed) (go-on-in v s i p w w.number fair time refl)
-ready-in-in v s i p (Zombie status) fair time = refl
+ready-in-in v s i p Running timed time = refl
+ready-in-in v s i p Ready timed time = refl
+ready-in-in v s i p (Waiting w) timed time = ap (λ b. b || p.killed) (go-on-in v s i p w w.number timed time refl)
+ready-in-in v s i p (Zombie status) timed time = refl
 
-ready-seen : (v : View) (s : State) (i : ℕ) → IsFair v → s.ticks ≡ v.now → ready (state_in v s) i ≡ ready s i
+ready-seen : (v : View) (s : State) (i : ℕ) → IsTimely v → s.ticks ≡ v.now → ready (state_in v s) i ≡ ready s i
 unfolding is_ready
-ready-seen v s i fair time = ap (holds (is_ready (state_in v s))) (at-in v s i) ∙ held (process_at s i)
+ready-seen v s i timed time = ap (holds (is_ready (state_in v s))) (at-in v s i) ∙ held (process_at s i)
   where
     held : (o : Option Process)
         → holds (is_ready (state_in v s)) (option_map (process_in v i) o) ≡ holds (is_ready s) o
     held None = refl
-    held (Some p) = ready-in-in v s i p p.mode fair time
+    held (Some p) = ready-in-in v s i p p.mode timed time
 
 find-same : (test other : ℕ → Bool) → ((n : ℕ) → other n ≡ test n) → (ns : List ℕ) → find other ns ≡ find test ns
 find-same test other same [] = refl
 find-same test other same (n ∷ ns) = ap (λ b. cond b (Some n) (find other ns)) (same n)
     ∙ ap (λ o. cond (test n) (Some n) o) (find-same test other same ns)
 
-pub turn-in : (v : View) (s : State) → IsFair v → s.ticks ≡ v.now → turn (state_in v s) ≡ turn s
+pub turn-timely : (v : View) (s : State) → IsTimely v → s.ticks ≡ v.now → turn (state_in v s) ≡ turn s
 unfolding turn state_in
-turn-in v s fair time =
-    find-same (ready s) (ready (state_in v s)) (λ i. ready-seen v s i fair time) (round_from s.last)
+turn-timely v s timed time =
+    find-same (ready s) (ready (state_in v s)) (λ i. ready-seen v s i timed time) (round_from s.last)
+
+pub turn-in : (v : View) (s : State) → IsFair v → s.ticks ≡ v.now → turn (state_in v s) ≡ turn s
+turn-in v s fair time = turn-timely v s (timely v fair) time
 
 pub runs-in : (v : View) (s : State) → running (state_in v s) ≡ running s
 unfolding state_in

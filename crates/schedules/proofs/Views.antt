@@ -123,6 +123,14 @@ pub record IsFair (v : View) : Type 0 where
   pub slept : (since : ℕ)
       → (v.clock + (2 ^ 32 - v.since Sleep since)) % 2 ^ 32 ≡ (v.now + (2 ^ 32 - since)) % 2 ^ 32
 
+-- one by which sleeps are over as they are
+pub record IsTimely (v : View) : Type 0 where
+  pub slept : (since : ℕ)
+      → (v.clock + (2 ^ 32 - v.since Sleep since)) % 2 ^ 32 ≡ (v.now + (2 ^ 32 - since)) % 2 ^ 32
+
+pub timely : (v : View) → IsFair v → IsTimely v
+timely v fair = record { slept = fair.slept }
+
 -- of slot i what is held is seen
 pub record IsPlain (v : View) (i : ℕ) : Type 0 where
   pub is : (h : Held) → v.held i h ≡ h

@@ -1,5 +1,5 @@
 -- Lists of events whose timer interrupts come before calls and faults, and what shows of a run.
-use Rattle.std.specs.Prelude.{List, None, [], false, map, option_map, true, ℕ, ⊤, ◌∷◌, ◌≡◌, ◌⊎◌}
+use Rattle.std.specs.Prelude.{List, None, Option, Some, [], false, map, option_map, true, ℕ, ℤ, ⊤, ◌∷◌, ◌≡◌, ◌⊎◌}
 use Rattle.schedules.specs.Holding.{Held, holding}
 use Rattle.schedules.specs.Schedules.{ComputesFor, after_steps, computes}
 use Rattle.unixmodel.specs.declared.event.Event.{Event}
@@ -51,13 +51,37 @@ pub record ShowsSame (a b : After) : Type 0 where
   pub bytes : a.bytes ≡ b.bytes
   pub state : shown a.state ≡ shown b.state
 
+-- ---- what interrupts meet
+
+-- an interrupt, and what shows of the state that it comes to
+pub record Interruption : Type 0 where
+  pub event : Event
+  pub meets : State
+
+abbrev pub with_interrupt : State → Event → List Interruption → List Interruption
+with_interrupt s Step later = later
+with_interrupt s Tick later = record { event = Tick; meets = shown s } ∷ later
+with_interrupt s (Key b) later = record { event = Key b; meets = shown s } ∷ later
+
+abbrev pub none_if_halted : Option ℤ → List Interruption → List Interruption
+none_if_halted (Some status) later = []
+none_if_halted None later = later
+
+-- those of a run, which ends where it halts, in order
+unfoldable pub interruptions : State → List Event → List Interruption
+interruptions s [] = []
+interruptions s (e ∷ es) =
+    with_interrupt s e (none_if_halted (next s e).state.halted (interruptions (next s e).state es))
+
 -- ---- the law
 
--- a list with the same interrupts, its timer interrupts before calls and faults, by which the same shows
+-- a list with the same interrupts, its timer interrupts before calls and faults, by which the same shows: to each
+-- interrupt, and at the end
 pub record Reduced (Endless : State → Type 0) (s : State) (events : List Event) : Type 0 where
   pub coarse : List Event
   pub placed : IsCoarse Endless s coarse
   pub same : interrupts coarse ≡ interrupts events
+  pub meet : interruptions s coarse ≡ interruptions s events
   pub shows : ShowsSame (run s coarse) (run s events)
 
 -- it never comes to one
