@@ -1,0 +1,13 @@
+pub mod Lists
+pub mod Events
+pub mod Runs
+pub mod Alike
+pub mod Plain
+pub mod Free
+pub mod Shows
+pub mod Typed
+pub mod Moves
+pub mod Opening
+pub mod Looking
+pub mod Complete
+pub mod Reducing

@@ -1,0 +1,45 @@
+-- What a search tells: outcomes, each with the events that lead to it; and what it means that these are all.
+use Rattle.std.specs.Prelude.{List, [], ℕ, ⊤, ◌∷◌, ◌≡◌, ◌⊎◌}
+use Rattle.orders.specs.declared.bounds.Bounds.{Bounds}
+use Rattle.orders.specs.declared.bounds.Missed.{Missed}
+use Rattle.orders.specs.declared.told.Outcome.{Outcome}
+use Rattle.orders.specs.Ends.{IsEnding, ShowSame}
+use Rattle.orders.specs.Paths.{events_of}
+use Rattle.orders.specs.Tried.{IsTried}
+use Rattle.unixmodel.specs.declared.event.Event.{Event}
+use Rattle.unixmodel.specs.Calls.{After}
+use Rattle.unixmodel.specs.Run.{run}
+use Rattle.unixmodel.specs.State.{State}
+
+-- one of a list
+abbrev pub One : {X : Type 0} → (X → Type 0) → List X → Type 0
+One P [] = ⊥
+One P (x ∷ xs) = P x ⊎ One P xs
+
+-- each of a list
+abbrev pub Each : {X : Type 0} → (X → Type 0) → List X → Type 0
+Each P [] = ⊤
+Each P (x ∷ xs) = P x × Each P xs
+
+-- ---- soundness
+
+-- the outcome's events may come, at their end it is over, and process 1 has ended with this status or not
+pub record IsSound (keys : List ℕ) (s : State) (o : Outcome) : Type 0 where
+  pub ending : IsEnding keys s (events_of o.path)
+  pub status : (run s (events_of o.path)).state.halted ≡ o.status
+
+-- ---- completeness
+
+-- the events of one of the outcomes show the same
+abbrev pub IsTold : State → List Outcome → After → Type 0
+IsTold s told a = One (λ (o : Outcome). ShowSame a (run s (events_of o.path))) told
+
+-- Whatever timer interrupts come, and wherever: a run over events that may come, at whose end process 1 has ended or
+-- all wait, shows what one of the outcomes shows.
+abbrev pub IsComplete : List ℕ → State → List Outcome → Type 0
+IsComplete keys s told = (es : List Event) → IsEnding keys s es → IsTold s told (run s es)
+
+-- the same, if only those timer interrupts come that were tried
+abbrev pub IsCompleteAsTried : Bounds → Missed → List ℕ → State → List Outcome → Type 0
+IsCompleteAsTried b m keys s told =
+    (es : List Event) → IsEnding keys s es → IsTried b m s es → IsTold s told (run s es)
