@@ -1,9 +1,12 @@
 -- What a source wants, piece by piece.
 use Rattle.std.proofs.Common.{[], ap, append-nil, append_assoc, arith, Err, le_trans, length, List, map, Ok, Option}
 use Rattle.std.proofs.Common.{refl, replicate, Result, subst, sym, ℕ, ◌+◌, ◌++◌, ◌-◌, ◌<◌, ◌∙◌, ◌∷◌, ◌≡◌, ◌≤◌, None}
-use Rattle.std.proofs.lemmas.List.{replicate-append-replicate}
+use Rattle.std.proofs.Common.{drop, get_or, take, take-append-drop}
+use Rattle.std.proofs.lemmas.List.{length-map, replicate-append-replicate, take_all}
 use Rattle.std.specs.Io.KnownBytes.{Keeps}
 use Rattle.calls.specs.declared.halt.Halt.{Halt}
+use Rattle.driver.proofs.Common.{press-next}
+use Rattle.driver.proofs.Tails.{shown-appends}
 use Rattle.driver.proofs.Walking.{IsSoFar, far-all, far-flushed, far-gives, far-none, far-state, far-then, far-up}
 use Rattle.driver.specs.Driven.{Gives, IsDriven, IsServed, Printed, Serves, halts, no_steps, spot_at}
 use Rattle.driver.specs.Spots.{Leads, Spot}
@@ -65,20 +68,39 @@ ticks-end {times} {made} h within all same =
 
 -- ---- keys
 
-module _ {goal : Option Goal} {keys : List ℕ} {old new : View} {from to : Printed} {kept keeps : Option (List Event)}
-    {before after : Clock} where
-  pub keys-given : {u : Unit {0}} (w : Walked) → Gives (map Key keys) old new from to kept keeps (Ok u)
-      → after ≡ before → Serves Keys goal keys old new from to kept keeps before after (Ok w)
-  keys-given w g same = record {
-    events = map Key keys;
-    gives = record { records = g.records; runs = g.runs; later = g.later };
-    serves = (refl, same);
+module _ (keys : List ℕ) (i : ℕ) (within : i < length keys) {old now : View} {from mid : Printed}
+    {kept keeps : Option (List Event)} (h : IsSoFar (take i (map Key keys)) old now from mid kept keeps) {new : View}
+    {to : Printed} {last : Option (List Event)} where
+  key-then : {r : Result (Unit {0}) Halt} → Gives (Key (get_or keys i 0) ∷ []) now new mid to keeps last r
+      → Gives (take (i + 1) (map Key keys)) old new from to kept last r
+  key-then {r} g = subst (λ (es : List Event). Gives es old new from to kept last r) (sym (press-next keys i within))
+      (far-then h g)
+
+  pub keys-more : {u : Unit {0}} → Gives (Key (get_or keys i 0) ∷ []) now new mid to keeps last (Ok u)
+      → IsSoFar (take (i + 1) (map Key keys)) old new from to kept last
+  keys-more g = far-gives (key-then g)
+
+  pub keys-halt : {goal : Option Goal} {before after : Clock} {why : Halt}
+      → Gives (Key (get_or keys i 0) ∷ []) now new mid to keeps last (Err why)
+      → Serves Keys goal keys old new from to kept last before after (Err why)
+  keys-halt g = record {
+    events = take (i + 1) (map Key keys);
+    gives = key-then g;
+    serves = (drop (i + 1) (map Key keys), take-append-drop (i + 1) (map Key keys));
   }
 
-  pub keys-halt : {why : Halt} → Gives (map Key keys) old new from to kept keeps (Err why)
-      → Serves Keys goal keys old new from to kept keeps before after (Err why)
-  keys-halt g = record { events = map Key keys; gives = g; serves = ([], append-nil (map Key keys)) }
+pub keys-end : (keys : List ℕ) (i : ℕ) {goal : Option Goal} {old now : View} {from mid : Printed}
+    {kept keeps : Option (List Event)} {before after : Clock} {w : Walked}
+    → IsSoFar (take i (map Key keys)) old now from mid kept keeps → length keys ≤ i → after ≡ before
+    → Serves Keys goal keys old now from mid kept keeps before after (Ok w)
+keys-end keys i h all same = record {
+  events = take i (map Key keys);
+  gives = far-all h tt;
+  serves = (take_all i (map Key keys) (rw (length-map keys Key) all), same);
+}
 
+module _ {goal : Option Goal} {keys : List ℕ} {old new : View} {from to : Printed} {kept keeps : Option (List Event)}
+    {before after : Clock} where
   -- the machine halts before the line's end
   pub line-halts : {other : Option Goal} {why : Halt}
       → Serves Keys other keys old new from to kept keeps before after (Err why)
@@ -174,18 +196,19 @@ line-serves {r = Err why} same h = rw (← same) (record { events = h.events; gi
 -- ---- a source
 
 -- what it wanted so far is given
-pub record IsDriving {S : Type 0} (wants : S → Walked → Spot → Result (Unit {0}) Halt → List Event → Type 0)
+pub record IsDriving {S : Type 0} (wants : S → Walked → Spot → S → Result (Unit {0}) Halt → List Event → Type 0)
     (first source : S) (walked : Walked) (old now : View) (from to : Printed) (kept keeps : Option (List Event))
     (before after : Clock) : Type 0 where
   pub events : List Event
   pub far : IsSoFar events old now from to kept keeps
-  pub closes : (r : Result (Unit {0}) Halt) (more : List Event) → wants source walked (spot_at now to after) r more
-      → wants first no_steps (spot_at old from before) r (events ++ more)
+  pub closes : (last : S) (r : Result (Unit {0}) Halt) (more : List Event)
+      → wants source walked (spot_at now to after) last r more
+      → wants first no_steps (spot_at old from before) last r (events ++ more)
 
-module _ {S : Type 0} {wants : S → Walked → Spot → Result (Unit {0}) Halt → List Event → Type 0} where
+module _ {S : Type 0} {wants : S → Walked → Spot → S → Result (Unit {0}) Halt → List Event → Type 0} where
   pub driving-begins : {first : S} {old : View} {from : Printed} {kept : Option (List Event)} {before : Clock}
       → IsUp old → IsDriving wants first first no_steps old old from from kept kept before before
-  driving-begins up = record { events = []; far = far-none up; closes = λ r more w. w }
+  driving-begins up = record { events = []; far = far-none up; closes = λ last r more w. w }
 
   module _ {first source later : S} {walked : Walked} {old now : View} {from mid : Printed}
       {kept keeps : Option (List Event)} {before clock : Clock}
@@ -197,11 +220,11 @@ module _ {S : Type 0} {wants : S → Walked → Spot → Result (Unit {0}) Halt 
 
     -- it is at its end
     pub driving-ends : wanted ≡ End
-        → IsDriven (wants first no_steps (spot_at old from before)) old now from mid kept keeps (Ok tt)
+        → IsDriven (wants first no_steps (spot_at old from before) later) old now from mid kept keeps (Ok tt)
     driving-ends is = record {
       events = h.events;
-      wanted = subst (λ es. wants first no_steps (spot_at old from before) (Ok tt) es) (append-nil h.events)
-          (h.closes (Ok tt) [] (asks-here.ends is));
+      wanted = subst (λ es. wants first no_steps (spot_at old from before) later (Ok tt) es) (append-nil h.events)
+          (h.closes later (Ok tt) [] (asks-here.ends is));
       gives = far-all h.far tt;
     }
 
@@ -212,23 +235,26 @@ module _ {S : Type 0} {wants : S → Walked → Spot → Result (Unit {0}) Halt 
       driving-more {w} x =
           let next = far-gives x.gives in
           let leads : Leads (spot_at now mid clock) x.events (spot_at new to after) =
-          record { state = far-state next; shown = next.so_far.done.printed } in
+          record {
+            state = far-state next;
+            shown = shown-appends mid.contents to.contents _ next.so_far.done.printed;
+          } in
           record {
             events = h.events ++ x.events;
             far = far-gives (far-then h.far x.gives);
-            closes = λ r more wants_more.
-                subst (λ es. wants first no_steps (spot_at old from before) r es)
+            closes = λ end r more wants_more.
+                subst (λ es. wants first no_steps (spot_at old from before) end r es)
                 (sym (append_assoc h.events x.events more))
-                (h.closes r (x.events ++ more)
-                (asks-here.goes x.events more (spot_at new to after) w r x.serves leads wants_more));
+                (h.closes end r (x.events ++ more)
+                (asks-here.goes x.events more (spot_at new to after) w end r x.serves leads wants_more));
           }
 
       -- the machine halts
       pub driving-halts : {why : Halt} → Serves wanted goal keys now new mid to keeps last clock after (Err why)
-          → IsDriven (wants first no_steps (spot_at old from before)) old new from to kept last (Err why)
+          → IsDriven (wants first no_steps (spot_at old from before) later) old new from to kept last (Err why)
       driving-halts {why} x = record {
         events = h.events ++ x.events;
-        wanted = h.closes (Err why) x.events (asks-here.halts x.events why x.serves);
+        wanted = h.closes later (Err why) x.events (asks-here.halts x.events why x.serves);
         gives = far-then h.far x.gives;
       }
 

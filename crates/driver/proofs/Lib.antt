@@ -1,8 +1,9 @@
 mod Common
 mod Driving
 mod Pacing
+mod Playing
 mod Reaching
 mod Scripting
 mod Striding
-mod Tails
+pub mod Tails
 mod Walking

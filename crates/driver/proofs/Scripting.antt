@@ -91,31 +91,31 @@ at-within [] i c is = absurd cc
 at-within (x ∷ xs) zero c is = omega arith
 at-within (x ∷ xs) (suc i) c is = let within = at-within xs i c is in omega (arith, within)
 
-module _ {S : Type 0} {wants : S → Walked → Spot → Result (Unit {0}) Halt → List Event → Type 0} {old new : S}
+module _ {S : Type 0} {wants : S → Walked → Spot → S → Result (Unit {0}) Halt → List Event → Type 0} {old new : S}
     {walked : Walked} {s : Spot} where
   pub asks-command : (c : Command) (rest : List Command)
-      → ((r : Result (Unit {0}) Halt) (events : List Event) → WantsScript (c ∷ rest) s r events
-      → wants old walked s r events)
-      → ((w : Walked) (t : Spot) (r : Result (Unit {0}) Halt) (events : List Event) → wants new w t r events
-      → WantsScript rest t r events)
+      → ((last : S) (r : Result (Unit {0}) Halt) (events : List Event) → WantsScript (c ∷ rest) s r events
+      → wants old walked s last r events)
+      → ((w : Walked) (t : Spot) (last : S) (r : Result (Unit {0}) Halt) (events : List Event)
+      → wants new w t last r events → WantsScript rest t r events)
       → Asks wants None (keys_of (Some c)) old new walked s (wanted_of c)
   asks-command c rest begins goes_on = record {
-    goes = λ events more t w r given leads later.
-        begins r (events ++ more)
+    goes = λ events more t w last r given leads later.
+        begins last r (events ++ more)
         (λ off.
         let h = given-command c s t events w off given in
-        follows-then (command_events c) (script_events rest) events more r h.0 (goes_on w t r more later h.1));
+        follows-then (command_events c) (script_events rest) events more r h.0 (goes_on w t last r more later h.1));
     halts = λ events why begun.
-        begins (Err why) events
+        begins new (Err why) events
         (λ off.
         begins-then (command_events c) (script_events rest) events (begun-command c s events off begun));
     ends = λ ends. absurd (never-ends c ends);
   }
 
   pub asks-end : {goal : Option Goal} {keys : List ℕ}
-      → (WantsScript [] s (Ok tt) [] → wants old walked s (Ok tt) []) → Asks wants goal keys old new walked s End
+      → (WantsScript [] s (Ok tt) [] → wants old walked s new (Ok tt) []) → Asks wants goal keys old new walked s End
   asks-end begins = record {
-    goes = λ events more t w r given leads later. absurd given;
+    goes = λ events more t w last r given leads later. absurd given;
     halts = λ events why begun. absurd begun;
     ends = λ ends. begins (λ off. refl);
   }

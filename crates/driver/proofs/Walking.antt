@@ -11,7 +11,8 @@ use Rattle.calls.specs.Steps.{IsBusy}
 use Rattle.calls.specs.declared.halt.Halt.{Halt}
 use Rattle.driver.proofs.Pacing.{off-passed, paced-more, paced-none, paced-one, paced-quiet, passed-more, passed-none}
 use Rattle.driver.proofs.Pacing.{paced-off, passed-one}
-use Rattle.driver.specs.Driven.{Gives, Goes, Printed, Serves, halts, spot_at}
+use Rattle.driver.proofs.Tails.{shown-appends}
+use Rattle.driver.specs.Driven.{Gives, Goes, Printed, Serves, halts, shown_by, spot_at}
 use Rattle.driver.specs.Goals.{GoesOn, IsFound, IsOver, IsReached, IsUnreached}
 use Rattle.driver.specs.Pacing.{Follows}
 use Rattle.events.specs.Paced.{Begins, paced, ticks_of}
@@ -204,29 +205,30 @@ walking-begins g most {old} {from} {kept} {before} up = record {
 
 module _ {g : Option Goal} {most made : ℕ} {old now : View} {from mid : Printed} {kept keeps : Option (List Event)}
     {before now_clock : Clock} (h : IsWalking g most made old now from mid kept keeps before now_clock) where
-  known-now : Keeps (append_known from.contents (walked_to (spot_at old from before) made).bytes) mid.contents
-  known-now = known-of from.contents mid.contents _ h.far.so_far.done.printed
+  known-now : Keeps (append_known (shown_by from) (walked_to (spot_at old from before) made).bytes) (shown_by mid)
+  known-now =
+      known-of (shown_by from) (shown_by mid) _ (shown-appends from.contents mid.contents _ h.far.so_far.done.printed)
 
   off-now : is_off now_clock ≡ is_off before
   off-now = ap is_off h.clock ∙ off-passed made before
 
-  over-now : IsOver g before now.state mid.contents → At (spot_at old from before) made (IsOver g before)
+  over-now : IsOver g before now.state (shown_by mid) → At (spot_at old from before) made (IsOver g before)
   over-now ends =
-      subst (λ (s : State). IsOver g before s (append_known from.contents (run old.state (paced made before)).bytes))
+      subst (λ (s : State). IsOver g before s (append_known (shown_by from) (run old.state (paced made before)).bytes))
       (far-state h.far)
-      (over-known g before now.state (append_known from.contents (run old.state (paced made before)).bytes) mid.contents
-      known-now ends)
+      (over-known g before now.state (append_known (shown_by from) (run old.state (paced made before)).bytes)
+      (shown_by mid) known-now ends)
 
-  found-now : (b : Bool) → IsFound g b now.state mid.contents → At (spot_at old from before) made (IsFound g b)
+  found-now : (b : Bool) → IsFound g b now.state (shown_by mid) → At (spot_at old from before) made (IsFound g b)
   found-now b found =
-      subst (λ (s : State). IsFound g b s (append_known from.contents (run old.state (paced made before)).bytes))
+      subst (λ (s : State). IsFound g b s (append_known (shown_by from) (run old.state (paced made before)).bytes))
       (far-state h.far)
-      (found-known g b now.state (append_known from.contents (run old.state (paced made before)).bytes) mid.contents
+      (found-known g b now.state (append_known (shown_by from) (run old.state (paced made before)).bytes) (shown_by mid)
       known-now found)
 
   -- the wait ends
   pub walking-ends : (w : Walked) → w.made ≡ made
-      → (made ≡ most) ⊎ IsOver g now_clock now.state mid.contents → IsFound g w.is_there now.state mid.contents
+      → (made ≡ most) ⊎ IsOver g now_clock now.state (shown_by mid) → IsFound g w.is_there now.state (shown_by mid)
       → Serves (Steps most) g [] old now from mid kept keeps before now_clock (Ok w)
   walking-ends w is over found =
       record {
@@ -238,7 +240,7 @@ module _ {g : Option Goal} {most made : ℕ} {old now : View} {from mid : Printe
             least = rw is h.least;
             over = rw is (elim over [
               | inl all ↦ inl all
-              | inr ends ↦ inr (over-now (over-off g now_clock before now.state mid.contents (sym off-now) ends))
+              | inr ends ↦ inr (over-now (over-off g now_clock before now.state (shown_by mid) (sym off-now) ends))
             ]);
             found = rw is (found-now w.is_there found);
           },
@@ -256,20 +258,21 @@ module _ {g : Option Goal} {most made : ℕ} {old now : View} {from mid : Printe
   walked-after n = ap (run old.state) (paced-after n) ∙ far-both h.far (paced n now_clock)
 
   -- what is waited for doesn't come while nothing changes
-  on-after : (n : ℕ) → GoesOn g now_clock now.state mid.contents
+  on-after : (n : ℕ) → GoesOn g now_clock now.state (shown_by mid)
       → HasStayed now.state (run now.state (paced n now_clock))
       → At (spot_at old from before) (made + n) (GoesOn g before)
   on-after n on stayed =
       let a = run now.state (paced n now_clock) in
       let first = (run old.state (paced made before)).bytes in
       let same : first ++ a.bytes ≡ first = ap (λ bs. first ++ bs) stayed.0 ∙ append-nil first in
-      let keeps : Keeps (append_known from.contents (first ++ a.bytes)) mid.contents =
-      subst (λ (bs : List ℕ). Keeps (append_known from.contents bs) mid.contents) (sym same) known-now in
-      subst (λ (x : After). GoesOn g before x.state (append_known from.contents x.bytes)) (sym (walked-after n))
-      (on-still g now_clock before now.state a.state (append_known from.contents (first ++ a.bytes)) mid.contents keeps
+      let keeps : Keeps (append_known (shown_by from) (first ++ a.bytes)) (shown_by mid) =
+      subst (λ (bs : List ℕ). Keeps (append_known (shown_by from) bs) (shown_by mid)) (sym same) known-now in
+      subst (λ (x : After). GoesOn g before x.state (append_known (shown_by from) x.bytes)) (sym (walked-after n))
+      (on-still g now_clock before now.state a.state (append_known (shown_by from) (first ++ a.bytes)) (shown_by mid)
+      keeps
       (sym off-now) on stayed.1)
 
-  least-after : (more : ℕ) → GoesOn g now_clock now.state mid.contents
+  least-after : (more : ℕ) → GoesOn g now_clock now.state (shown_by mid)
       → ((n : ℕ) → n < more → HasStayed now.state (run now.state (paced n now_clock)))
       → (n : ℕ) → n < made + more → At (spot_at old from before) n (GoesOn g before)
   least-after more on still n less = elim (cases_lt n made) [
@@ -284,7 +287,7 @@ module _ {g : Option Goal} {most made : ℕ} {old now : View} {from mid : Printe
 least-any : (g : Option Goal) (aims : Bool) (more made most : ℕ) {old now : View} {from mid : Printed}
     {kept keeps : Option (List Event)} {before now_clock : Clock}
     → IsWalking g most made old now from mid kept keeps before now_clock → (is_some g ≡ aims)
-    → GoesOn g now_clock now.state mid.contents → (aims ≡ true → IsStill now.state now_clock more)
+    → GoesOn g now_clock now.state (shown_by mid) → (aims ≡ true → IsStill now.state now_clock more)
     → (n : ℕ) → n < made + more → At (spot_at old from before) n (GoesOn g before)
 least-any None aims more made most h is on still n less = tt
 least-any (Some g) aims more made most h is on still n less =
@@ -301,7 +304,7 @@ goes-through a b c x = rw (← a, ← b, ← c) x
 module _ {g : Option Goal} {most made : ℕ} {old now : View} {from mid out : Printed} {kept keeps : Option (List Event)}
     {before now_clock : Clock} (h : IsWalking g most made old now from mid kept keeps before now_clock)
     (keep : Keeps mid.contents out.contents) (later : mid.failed ≤ out.failed)
-    (on : GoesOn g now_clock now.state mid.contents)
+    (on : GoesOn g now_clock now.state (shown_by mid))
     {aims : Bool} (is : is_some g ≡ aims) {room more : ℕ} (few : room ≤ most - made) {new : View} {to : Printed}
     {last : Option (List Event)} {after : Clock} where
   -- more steps, and it is not over

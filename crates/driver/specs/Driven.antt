@@ -5,6 +5,7 @@ use Rattle.driver.specs.Pacing.{Follows}
 use Rattle.events.specs.Paced.{paced}
 use Rattle.driver.specs.Spots.{Spot}
 use Rattle.driver.specs.Strides.{IsStill}
+use Rattle.driver.specs.Tails.{shown_of}
 use Rattle.driver.specs.Wanted.{IsBegun, IsGiven}
 use Rattle.driver.specs.declared.wanted.Walked.{Walked}
 use Rattle.driver.specs.declared.wanted.Wanted.{Wanted}
@@ -17,7 +18,7 @@ use Rattle.playtext.specs.declared.grammar.Goal.{Goal}
 use Rattle.unixmodel.specs.declared.event.Event.{Event}
 use Rattle.unixmodel.specs.Failures.{Rises}
 
--- an output: the bytes that its writer took, where they are known, and how often it failed
+-- an output: what it took, where that is known, told as of a writer that had bytes before; and how often it failed
 pub record Printed : Type 0 where
   pub contents : Option (List ℕ)
   pub failed : ℕ
@@ -29,9 +30,13 @@ pub record Gives (events : List Event) (old new : View) (from to : Printed) (kep
   pub runs : RunGives old new events from.contents to.contents (Rises from.failed to.failed) result
   pub later : from.failed ≤ to.failed
 
+-- what it put out
+abbrev pub shown_by : Printed → Option (List ℕ)
+shown_by out = shown_of out.contents
+
 -- where a machine is
 abbrev pub spot_at : View → Printed → Clock → Spot
-spot_at m out clock = record { state = m.state; shown = out.contents; clock = clock }
+spot_at m out clock = record { state = m.state; shown = shown_by out; clock = clock }
 
 abbrev pub no_steps : Walked
 no_steps = record { made = 0; is_there = false }

@@ -7,3 +7,5 @@ pub mod Wanted
 pub mod Driven
 pub mod Tails
 pub mod Commands
+pub mod Plays
+pub mod Played

@@ -43,11 +43,12 @@ IsBegun Line goal keys s events = Begins events (line_keys keys)
 IsBegun _ goal keys s events = ⊥
 
 -- a source was asked at `s`: the events that it wanted from there on are those of what it wants now, and those that it
--- wants afterwards; where the machine halts, a beginning; none at its end
-pub record Asks {S : Type 0} (wants : S → Walked → Spot → Result (Unit {0}) Halt → List Event → Type 0)
+-- wants afterwards, up to what it is at last; where the machine halts, a beginning; none at its end
+pub record Asks {S : Type 0} (wants : S → Walked → Spot → S → Result (Unit {0}) Halt → List Event → Type 0)
     (goal : Option Goal) (keys : List ℕ) (old new : S) (before : Walked) (s : Spot) (w : Wanted) : Type 0 where
-  pub goes : (events more : List Event) (t : Spot) (walked : Walked) (r : Result (Unit {0}) Halt)
-      → IsGiven w goal keys s events t walked → Leads s events t → wants new walked t r more
-      → wants old before s r (events ++ more)
-  pub halts : (events : List Event) (why : Halt) → IsBegun w goal keys s events → wants old before s (Err why) events
-  pub ends : w ≡ End → wants old before s (Ok tt) []
+  pub goes : (events more : List Event) (t : Spot) (walked : Walked) (last : S) (r : Result (Unit {0}) Halt)
+      → IsGiven w goal keys s events t walked → Leads s events t → wants new walked t last r more
+      → wants old before s last r (events ++ more)
+  pub halts : (events : List Event) (why : Halt) → IsBegun w goal keys s events
+      → wants old before s new (Err why) events
+  pub ends : w ≡ End → wants old before s new (Ok tt) []

@@ -1,9 +1,11 @@
 //! The loop that gives a machine its events.
-ghost use Rattle.std.specs.Prelude.{◌<◌, ◌≡◌, ◌≢◌, ◌≤◌, IfSome, MatchBool, [], Some, None, option_map, true, ◌&&◌};
+ghost use Rattle.std.specs.Prelude.{◌<◌, ◌≡◌, ◌≢◌, ◌≤◌, MatchBool, [], Some, None, option_map, true, ◌&&◌};
 ghost use Rattle.std.specs.Io.KnownBytes.{Keeps};
-ghost use Rattle.driver.specs.Driven.{Goes, IsDriven, Serves, no_steps, spot_at};
+ghost use Rattle.driver.specs.Driven.{Goes, IsDriven, Serves, no_steps, shown_by, spot_at};
 ghost use Rattle.driver.specs.Goals.{GoesOn, IsFound, IsOver, IsReached, IsUnreached};
 ghost use Rattle.driver.specs.Pacing.{Follows};
+ghost use Rattle.driver.specs.Played.{IsPlayed};
+ghost use Rattle.driver.specs.Tails.{shown_of, written_of};
 ghost use Rattle.driver.specs.declared.wanted.Wanted.TheVariants.{End, Keys, Line, Steps, Ticks};
 ghost use Rattle.events.specs.Scripts.{script_events};
 ghost use Rattle.kernel.specs.Idle.{is_idle};
@@ -11,16 +13,17 @@ ghost use Rattle.machine.specs.View.{IsUp};
 ghost use Rattle.playtext.specs.Clocks.{is_off, quiet};
 ghost use Rattle.playtext.specs.declared.clock.Clock.TheVariants.{Off};
 
+use crate::play::{Lines, Unreached};
 use crate::script::Script;
 use crate::source::Source;
-use crate::strides::{each, once, press, stretch};
+use crate::strides::{Reach, each, once, stretch};
 use crate::tail::Tail;
 use crate::wanted::{Walked, Wanted};
 use blockdev::BlockDev;
 use events::Record;
 use live::Watch;
 use machine::{Halt, Machine};
-use playtext::{Clock, Goal};
+use playtext::{Clock, Goal, Play};
 use scripts::Command;
 use std::io::Write;
 use sv39::Translate;
@@ -42,17 +45,20 @@ pub struct Driver<D: BlockDev, T: Translate, R, V, W: Write> {
     out: Tail<W>,
     // What gives ticks between steps.
     clock: Clock,
-    // How many events there were since the console's bytes were written out.
+    // How many events there were since the console's bytes were written out; as many as a batch has where that is due
+    // before the next.
     since: u32,
+    // Whether it is to be known at which step the machine halts.
+    is_exact: bool,
 }
 
 impl<D: BlockDev, T: Translate, R: Record, V: Watch, W: Write> Driver<D, T, R, V, W> {
-    /// A machine that takes events, and a writer that has no bytes yet, as far as that is known. No clock runs.
+    /// A machine that takes events, and a writer that takes what its console prints. No clock runs.
     pub fn new(machine: Machine<D, T>, keeper: R, watch: V, writer: W) -> Self
-        requires { IfSome (W.contents writer) (λ bytes. bytes ≡ []) }
         ensures machine { result.machine ≡ machine }
         ensures keeper { result.keeper ≡ keeper }
-        ensures contents { result.out.contents ≡ W.contents writer }
+        ensures written { written_of result.out.contents ≡ W.contents writer }
+        ensures shown { shown_of result.out.contents ≡ option_map (λ bytes. []) (W.contents writer) }
         ensures failed { result.out.failed ≡ 0 }
         ensures clock { result.clock ≡ Off }
     {
@@ -63,14 +69,15 @@ impl<D: BlockDev, T: Translate, R: Record, V: Watch, W: Write> Driver<D, T, R, V
             out: Tail::new(writer),
             clock: Clock::Off,
             since: 0,
+            is_exact: false,
         }
     }
 
     // Whether a goal is reached.
     fn is_reached(&self, goal: &Goal) -> bool
         requires { IsUp self.now.machine }
-        ensures { MatchBool result (IsReached goal.now self.now.machine.state self.now.out.contents)
-            (IsUnreached goal.now self.now.machine.state self.now.out.contents) }
+        ensures { MatchBool result (IsReached goal.now self.now.machine.state (shown_by self.now.out))
+            (IsUnreached goal.now self.now.machine.state (shown_by self.now.out)) }
     {
         match goal {
             Goal::Shown(text) => self.out.ends_with(text.as_slice()),
@@ -84,7 +91,8 @@ impl<D: BlockDev, T: Translate, R: Record, V: Watch, W: Write> Driver<D, T, R, V
     // Whether what is waited for has come.
     fn is_found(&self, aim: Option<&Goal>) -> bool
         requires { IsUp self.now.machine }
-        ensures { IsFound (option_map (λ g. g.now) aim.entry) result self.now.machine.state self.now.out.contents }
+        ensures { IsFound (option_map (λ g. g.now) aim.entry) result self.now.machine.state
+            (shown_by self.now.out) }
     {
         match aim {
             None => false,
@@ -103,8 +111,8 @@ impl<D: BlockDev, T: Translate, R: Record, V: Watch, W: Write> Driver<D, T, R, V
     fn is_ended(&self, goal: &Goal) -> bool
         requires { IsUp self.now.machine }
         ensures { MatchBool result
-            (IsOver (Some goal.now) self.now.clock self.now.machine.state self.now.out.contents)
-            (GoesOn (Some goal.now) self.now.clock self.now.machine.state self.now.out.contents) }
+            (IsOver (Some goal.now) self.now.clock self.now.machine.state (shown_by self.now.out))
+            (GoesOn (Some goal.now) self.now.clock self.now.machine.state (shown_by self.now.out)) }
     {
         if self.is_reached(goal) {
             return true;
@@ -116,8 +124,8 @@ impl<D: BlockDev, T: Translate, R: Record, V: Watch, W: Write> Driver<D, T, R, V
     fn is_over(&self, aim: Option<&Goal>) -> bool
         requires { IsUp self.now.machine }
         ensures { MatchBool result
-            (IsOver (option_map (λ g. g.now) aim.entry) self.now.clock self.now.machine.state self.now.out.contents)
-            (GoesOn (option_map (λ g. g.now) aim.entry) self.now.clock self.now.machine.state self.now.out.contents) }
+            (IsOver (option_map (λ g. g.now) aim.entry) self.now.clock self.now.machine.state (shown_by self.now.out))
+            (GoesOn (option_map (λ g. g.now) aim.entry) self.now.clock self.now.machine.state (shown_by self.now.out)) }
     {
         match aim {
             None => false,
@@ -125,8 +133,9 @@ impl<D: BlockDev, T: Translate, R: Record, V: Watch, W: Write> Driver<D, T, R, V
         }
     }
 
-    // Writes out the console's bytes where that is due, and returns how many events may come before it is again.
-    fn write_out(&mut self, event: Event, made: u32) -> u32
+    // Writes out the console's bytes where a batch begins of an event that comes `times` times, and came `made` times so
+    // far, if more than a batch would have come since that was last done. Returns how many may come up to the next.
+    fn write_out(&mut self, event: Event, made: u32, times: u32) -> u32
         ensures machine { self.new.machine ≡ self.old.machine }
         ensures keeper { self.new.keeper ≡ self.old.keeper }
         ensures clock { self.new.clock ≡ self.old.clock }
@@ -134,11 +143,17 @@ impl<D: BlockDev, T: Translate, R: Record, V: Watch, W: Write> Driver<D, T, R, V
         ensures later { self.old.out.failed ≤ self.new.out.failed }
         ensures room { (0 < result) × (result ≤ 65536) }
     {
-        let is_early = self.since < BATCH;
-        if is_early {
-            return BATCH - self.since;
+        let part = made % BATCH;
+        if part > 0 {
+            return BATCH - part;
         }
-        self.since = 0;
+        let more = times.saturating_sub(made).min(BATCH);
+        self.since = self.since.saturating_add(more);
+        let is_early = self.since <= BATCH;
+        if is_early {
+            return BATCH;
+        }
+        self.since = more;
         self.out.flush();
         self.watch.written_out(event, made);
         BATCH
@@ -152,9 +167,8 @@ impl<D: BlockDev, T: Translate, R: Record, V: Watch, W: Write> Driver<D, T, R, V
     {
         let mut made = 0;
         while made < times {
-            let count = self.write_out(Event::Tick, made).min(times - made);
+            let count = self.write_out(Event::Tick, made, times).min(times - made);
             self.keeper.ticks(count);
-            self.since = self.since.saturating_add(count);
             each(
                 &mut self.machine,
                 Event::Tick,
@@ -168,14 +182,21 @@ impl<D: BlockDev, T: Translate, R: Record, V: Watch, W: Write> Driver<D, T, R, V
         Ok(Walked::NONE)
     }
 
-    // Gives keys.
+    // Gives keys, one after the other.
     fn press(&mut self, keys: &[u8]) -> Result<Walked, Halt>
         requires { IsUp self.old.machine }
         ensures { Serves Keys None keys.now self.old.machine self.new.machine self.old.out self.new.out
             (R.kept self.old.keeper) (R.kept self.new.keeper) self.old.clock self.new.clock result }
     {
-        self.keeper.keys(keys);
-        press(&mut self.machine, keys, &mut self.watch, &mut self.out)?;
+        for key in keys {
+            self.keeper.keys(&[*key]);
+            once(
+                &mut self.machine,
+                Event::Key(*key),
+                &mut self.watch,
+                &mut self.out,
+            )?;
+        }
         Ok(Walked::NONE)
     }
 
@@ -198,13 +219,12 @@ impl<D: BlockDev, T: Translate, R: Record, V: Watch, W: Write> Driver<D, T, R, V
         ensures { Goes aims most self.old.machine self.new.machine self.old.out self.new.out
             (R.kept self.old.keeper) (R.kept self.new.keeper) self.old.clock self.new.clock result.0 result.1 }
     {
-        let (made, ended) = stretch(
-            &mut self.machine,
+        let reach = Reach {
             most,
             aims,
-            &mut self.watch,
-            &mut self.out,
-        );
+            is_exact: self.is_exact,
+        };
+        let (made, ended) = stretch(&mut self.machine, reach, &mut self.watch, &mut self.out);
         self.keeper.steps(made);
         self.clock.pass(made);
         (made, ended)
@@ -257,7 +277,7 @@ impl<D: BlockDev, T: Translate, R: Record, V: Watch, W: Write> Driver<D, T, R, V
         requires { IsUp self.now.machine }
         ensures made { result.made ≡ made }
         ensures found { IsFound (option_map (λ g. g.now) aim.entry) result.is_there self.now.machine.state
-            self.now.out.contents }
+            (shown_by self.now.out) }
     {
         Walked {
             made,
@@ -278,10 +298,9 @@ impl<D: BlockDev, T: Translate, R: Record, V: Watch, W: Write> Driver<D, T, R, V
                 self.watch.repeated(Event::Step, made);
                 return Ok(self.ended(made, aim));
             }
-            let room = self.write_out(Event::Step, made).min(most - made);
+            let room = self.write_out(Event::Step, made, most).min(most - made);
             let (more, ended) = self.go_on(room, aim.is_some());
             ended?;
-            self.since = self.since.saturating_add(more);
             made += more;
         }
         self.watch.repeated(Event::Step, made);
@@ -306,7 +325,7 @@ impl<D: BlockDev, T: Translate, R: Record, V: Watch, W: Write> Driver<D, T, R, V
                 Ok(Walked::NONE)
             }
             Wanted::WriteOut => {
-                self.since = 0;
+                self.since = BATCH;
                 self.out.flush();
                 Ok(Walked::NONE)
             }
@@ -319,7 +338,8 @@ impl<D: BlockDev, T: Translate, R: Record, V: Watch, W: Write> Driver<D, T, R, V
     /// events are its run, and just these are recorded. The console's bytes are written out as it runs.
     pub fn drive<S: Source>(&mut self, source: &mut S) -> Result<(), Halt>
         requires { IsUp self.old.machine }
-        ensures { IsDriven (S.wants source.old no_steps (spot_at self.old.machine self.old.out self.old.clock))
+        ensures { IsDriven
+            (S.wants source.old no_steps (spot_at self.old.machine self.old.out self.old.clock) source.new)
             self.old.machine self.new.machine self.old.out self.new.out (R.kept self.old.keeper)
             (R.kept self.new.keeper) result }
     {
@@ -341,6 +361,20 @@ impl<D: BlockDev, T: Translate, R: Record, V: Watch, W: Write> Driver<D, T, R, V
             self.new.out (R.kept self.old.keeper) (R.kept self.new.keeper) result }
     {
         self.drive(&mut Script::new(script))
+    }
+
+    /// The same for a play. A line that waits in vain is the last, and is returned.
+    pub fn play(&mut self, play: &Play<'_>) -> Result<Option<Unreached>, Halt>
+        requires { IsUp self.old.machine }
+        ensures { IsPlayed play.now.acts.items (spot_at self.old.machine self.old.out self.old.clock)
+            self.old.machine self.new.machine self.old.out self.new.out (R.kept self.old.keeper)
+            (R.kept self.new.keeper) result }
+    {
+        let mut lines = Lines::new(play.acts.as_slice());
+        self.since = BATCH;
+        self.is_exact = true;
+        self.drive(&mut lines)?;
+        Ok(lines.unreached)
     }
 
     /// The machine, who recorded its events, who looked on, and the output.

@@ -3,6 +3,7 @@
 #![tactic(auto)]
 
 mod driver;
+mod play;
 mod script;
 mod source;
 mod strides;
@@ -10,6 +11,7 @@ mod tail;
 mod wanted;
 
 pub use driver::Driver;
+pub use play::Unreached;
 pub use script::Script;
 pub use source::Source;
 pub use tail::Tail;

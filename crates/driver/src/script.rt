@@ -71,7 +71,7 @@ impl Source for Script<'_, '_> {
 
     ghost typed = { λ s. keys_of (option_map (λ c. c.now) s.current) };
 
-    ghost wants = { λ s walked. WantsScript (drop s.at s.commands.now) };
+    ghost wants = { λ s walked spot last. WantsScript (drop s.at s.commands.now) spot };
 
     fn next<D: BlockDev, T: Translate>(
         &mut self,

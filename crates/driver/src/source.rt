@@ -27,8 +27,8 @@ pub trait Source {
     ghost typed: { Self → List ℕ };
 
     /// Which events it wants from a spot on, in all, after this came of the steps that it wanted last; or which are a
-    /// beginning of them, where the machine halts.
-    ghost wants: { Self → Walked → Spot → Result (Unit {0}) Halt → List Event → Type 0 };
+    /// beginning of them, where the machine halts. Then it is as the second value.
+    ghost wants: { Self → Walked → Spot → Self → Result (Unit {0}) Halt → List Event → Type 0 };
 
     /// What it wants next, of a machine as it is now. `walked` is what came of the steps that it wanted last.
     fn next<D: BlockDev, T: Translate>(&mut self, machine: &Machine<D, T>, walked: Walked) -> Wanted

@@ -1,11 +1,11 @@
 //! Events that a machine is given at once.
-ghost use Rattle.std.specs.Prelude.{[], ◌∷◌, ◌<◌, ◌≡◌, ◌≤◌, map, replicate, true};
+ghost use Rattle.std.specs.Prelude.{[], ◌∷◌, ◌<◌, ◌≡◌, ◌≤◌, replicate, true};
 ghost use Rattle.driver.specs.Strides.{IsStill, Passes};
 ghost use Rattle.machine.specs.Gives.{RunGivesTo, StepGivesTo};
 ghost use Rattle.machine.specs.View.{IsUp};
 ghost use Rattle.playtext.specs.declared.clock.Clock.TheVariants.{Off};
 ghost use Rattle.unixmodel.specs.Next.{next};
-ghost use Rattle.unixmodel.specs.declared.event.Event.TheVariants.{Key, Step};
+ghost use Rattle.unixmodel.specs.declared.event.Event.TheVariants.{Step};
 
 use blockdev::BlockDev;
 use console::Out;
@@ -70,23 +70,6 @@ pub fn each<D: BlockDev, T: Translate, V: Watch, W: Out>(
     Ok(())
 }
 
-/// Gives keys, one after the other.
-pub fn press<D: BlockDev, T: Translate, V: Watch, W: Out>(
-    machine: &mut Machine<D, T>,
-    keys: &[u8],
-    watch: &mut V,
-    out: &mut W,
-) -> Result<(), Halt>
-    requires { IsUp machine.old }
-    ensures gives { RunGivesTo W.contents W.failures machine.old machine.new out.old out.new (map Key keys.now) result }
-    ensures later { W.failures out.old ≤ W.failures out.new }
-{
-    for key in keys {
-        give(machine, Event::Key(*key), watch, out)?;
-    }
-    Ok(())
-}
-
 // Whether instructions go in one loop, of which there may be this many.
 fn is_loop(detail: Detail, most: u32) -> bool {
     match detail {
@@ -146,23 +129,39 @@ pub fn stride<D: BlockDev, T: Translate, V: Watch, W: Out>(
     (1, give(machine, Event::Step, watch, out))
 }
 
+/// How far steps may go that are done in one go.
+#[derive(Clone, Copy)]
+pub struct Reach {
+    /// How many there are at most.
+    pub most: u32,
+    /// Whether a source waits for something.
+    pub aims: bool,
+    /// Whether it is to be known at which of them the machine halts.
+    pub is_exact: bool,
+}
+
 /// The same for a source that may wait for something, or doesn't: then many steps that nobody watches go in one loop.
+/// Where the machine halts, they are all that there may be.
 pub fn stretch<D: BlockDev, T: Translate, V: Watch, W: Out>(
     machine: &mut Machine<D, T>,
-    most: u32,
-    aims: bool,
+    reach: Reach,
     watch: &mut V,
     out: &mut W,
 ) -> (u32, Result<(), Halt>)
     requires up { IsUp machine.old }
-    requires some { 0 < most }
+    requires some { 0 < reach.most }
     ensures gives { RunGivesTo W.contents W.failures machine.old machine.new out.old out.new (replicate result.0 Step)
         result.1 }
-    ensures within { (0 < result.0) × (result.0 ≤ most) }
-    ensures still { aims ≡ true → IsStill machine.old.state Off result.0 }
+    ensures within { (0 < result.0) × (result.0 ≤ reach.most) }
+    ensures still { reach.aims ≡ true → IsStill machine.old.state Off result.0 }
     ensures later { W.failures out.old ≤ W.failures out.new }
 {
-    if !aims && watch.detail() == Detail::Nothing && most >= LOOP {
+    let Reach {
+        most,
+        aims,
+        is_exact,
+    } = reach;
+    if !aims && !is_exact && watch.detail() == Detail::Nothing && most >= LOOP {
         return (most, machine.steps(most, out));
     }
     stride(machine, most, watch, out)

@@ -1,8 +1,9 @@
 //! An output that remembers its last bytes.
 ghost use Rattle.std.specs.Prelude.{[], IfOk, IfSome, MatchBool, MatchResult, OnErr, ◌++◌, ◌<◌, ◌∷◌, ◌≡◌, ◌≤◌};
-ghost use Rattle.std.specs.Prelude.{length, take};
+ghost use Rattle.std.specs.Prelude.{length, option_map, take};
 ghost use Rattle.std.specs.Io.KnownBytes.{Appends, Keeps};
 ghost use Rattle.driver.specs.Goals.{EndsWith, last_bytes};
+ghost use Rattle.driver.specs.Tails.{shown_of, written_of};
 ghost use Rattle.unixmodel.specs.Failures.{Rises};
 
 use arrayvec::ArrayVec;
@@ -16,6 +17,8 @@ use std::marker::Model;
 pub struct Tail<W: Write> {
     inner: W,
     failed: u64,
+    // How many bytes it took, and the last of them.
+    count: u64,
     last: ArrayVec<u8, MOST_SHOWN>,
 }
 
@@ -25,7 +28,7 @@ impl<W: Write> Model for Tail<W> {
 
     ghost Value = { Printed };
 
-    ghost view = { λ t. record { contents = remembered (W.contents t.inner) t.last.items; failed = t.failed } };
+    ghost view = { λ t. record { contents = remembered (W.contents t.inner) t.count t.last.items; failed = t.failed } };
 }
 
 // Remembers a byte after the others, and forgets the oldest of 64 for it.
@@ -49,22 +52,23 @@ fn remember(last: &mut ArrayVec<u8, MOST_SHOWN>, bytes: &[u8])
 }
 
 impl<W: Write> Tail<W> {
-    /// An output over a writer that has no bytes yet, as far as that is known.
+    /// An output over a writer, which has put out nothing yet.
     pub fn new(inner: W) -> Self
-        requires silent { IfSome (W.contents inner) (λ bytes. bytes ≡ []) }
-        ensures contents { result.contents ≡ W.contents inner }
+        ensures written { written_of result.contents ≡ W.contents inner }
+        ensures shown { shown_of result.contents ≡ option_map (λ bytes. []) (W.contents inner) }
         ensures failed { result.failed ≡ 0 }
     {
         Tail {
             inner,
             failed: 0,
+            count: 0,
             last: ArrayVec::new(),
         }
     }
 
     /// The writer, and how often it has failed, up to `u64::MAX`.
     pub fn into_parts(self) -> (W, u64)
-        ensures contents { Keeps self.contents (W.contents result.0) }
+        ensures contents { Keeps (written_of self.contents) (W.contents result.0) }
         ensures failed { result.1 ≡ self.failed }
     {
         let Tail { inner, failed, .. } = self;
@@ -81,7 +85,7 @@ impl<W: Write> Tail<W> {
         }
     }
 
-    // Hands bytes to the writer, and returns how many it took.
+    // Hands bytes to the writer, and returns how many it took. It takes 2^64 - 1 bytes in all, and fails then.
     fn write(&mut self, bytes: &[u8]) -> Result<usize, OutFault>
         ensures some { IfOk result (λ count. (0 < count) × (count ≤ length bytes.now)) }
         ensures takes { MatchResult result (λ count. Appends self.old.contents self.new.contents (take count bytes.now))
@@ -89,10 +93,17 @@ impl<W: Write> Tail<W> {
         ensures later { self.old.failed ≤ self.new.failed }
         ensures cause { OnErr result (Rises self.old.failed self.new.failed) }
     {
+        let room = u64::MAX - self.count;
+        let is_over = bytes.len() as u64 > room;
+        if is_over {
+            self.failed = self.failed.saturating_add(1);
+            return Err(OutFault::Writer);
+        }
         match self.inner.write(bytes) {
             Ok(count) if count > 0 => {
                 let (taken, _) = bytes.split_at(count);
                 remember(&mut self.last, taken);
+                self.count += count as u64;
                 Ok(count)
             }
             _ => {
@@ -102,10 +113,10 @@ impl<W: Write> Tail<W> {
         }
     }
 
-    /// Whether the last bytes are these, of all that was put out where that is known.
+    /// Whether the last bytes that were put out are these.
     pub fn ends_with(&self, bytes: &[u8]) -> bool
         requires { length bytes.now ≤ 64 }
-        ensures { IfSome self.now.contents
+        ensures { IfSome (shown_of self.now.contents)
             (λ all. MatchBool result (EndsWith bytes.now all) (¬ EndsWith bytes.now all)) }
     {
         self.last.as_slice().ends_with(bytes)

@@ -1,10 +1,11 @@
 use Rattle.driver.proofs.Reaching.{match-both, match-shown, match-test}
+use Rattle.driver.specs.Driven.{shown_by}
 use Rattle.driver.proofs.driver.Driver.is_reached.Goals as goal
 
 pub returns-in-Shown : goal.returns-in-Shown
 returns-in-Shown g c =
     rw c.in-Shown.is
-    (match-shown c.args.self.now.out.contents c.as_slice.result.now _ c.ends_with.result c.as_slice.ensures.value
+    (match-shown (shown_by c.args.self.now.out) c.as_slice.result.now _ c.ends_with.result c.as_slice.ensures.value
     c.ends_with.ensures)
 
 pub returns-in-Idle : goal.returns-in-Idle

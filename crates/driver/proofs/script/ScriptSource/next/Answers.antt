@@ -15,9 +15,9 @@ returns-in-Some-clause-asks g c s same =
     let x = c.args.self.now in
     rw c.wanted_of.ensures
     (asks-command c.in-Some.command.now (drop (x.at + 1) x.commands.now)
-    (λ r events h.
+    (λ last r events h.
     subst (λ l. WantsScript l s r events) (sym (drop-at x.commands.now x.at c.in-Some.command.now c.in-Some.ensures)) h)
-    (λ w t r events h. h))
+    (λ w t last r events h. h))
 
 pub returns-in-Some-clause-fewer : goal.returns-in-Some-clause-fewer
 returns-in-Some-clause-fewer g c ends =
