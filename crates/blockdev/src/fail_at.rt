@@ -2,6 +2,7 @@
 
 ghost use Rattle.std.specs.Prelude.{◌≡◌, ◌≢◌, ℕ, ◌-◌, ◌<◌, ◌↔◌, IfOk, IfSome, IsErr, IsTrue, None, OnOk, length};
 ghost use Rattle.std.specs.Prelude.{slice_set};
+ghost use Rattle.std.specs.Bool.{OnTrue, OnFalse};
 ghost use Rattle.std.specs.Int.NonZero.{non_zero_u64_get};
 ghost use Rattle.unixmodel.specs.Failures.{HasCause};
 
@@ -114,6 +115,18 @@ impl<D: Duplicate> Duplicate for FailAt<D> {
             device: self.device.duplicate(alloc)?,
             left: self.left,
         })
+    }
+
+    fn copy_from(&mut self, source: &FailAt<D>) -> bool {
+        if !self.device.copy_from(&source.device) {
+            return false;
+        }
+        self.left = source.left;
+        true
+    }
+
+    fn set(&mut self, n: usize, block: &Block) {
+        self.device.set(n, block);
     }
 }
 

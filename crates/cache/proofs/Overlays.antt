@@ -9,6 +9,8 @@ use Rattle.cache.proofs.Common.{nat_eq_equiv, append_assoc, length-append, take_
 use Rattle.cache.proofs.Common.{false, ◌&&◌, ◌||◌, min, nat_le, cases_lt, and_from, and_parts, false_from_ne_true}
 use Rattle.cache.proofs.Common.{le-leb, leb-true, is_due, lower, next_of, scan, ◌+◌, ◌^◌, Fits, w64, or_parts}
 use Rattle.cache.proofs.Common.{AreFlushed, cleaned}
+use Rattle.cache.specs.Overlay.{AreInside}
+use Rattle.std.proofs.Common.{append-nil}
 use Rattle.std.proofs.lemmas.List.FromFn.{length-map-range_with_len, get_or-map-range_with_len}
 use Rattle.std.proofs.lemmas.Map.{lookup-none}
 use Rattle.std.proofs.lemmas.Map.Keys.{IsDistinct-tail}
@@ -317,6 +319,70 @@ pub all : (held copy : LruCache ℕ Slot) (rest : Entries) → IsHalf held copy 
 all held copy rest half is =
     let same : copy.entries ≡ held.entries = ap (λ l. l ++ copy.entries) (sym is) ∙ half.joined in
     ap (λ es. lru_cache es copy.cap) same ∙ ap (lru_cache held.entries) half.cap
+
+-- ---- what is held goes into a device, from the last used to the first
+
+-- the device has the blocks of done, those that come after rest
+pub record IsSetFrom (held : Entries) (stored now : Blocks) (rest : Entries) : Type 0 where
+  pub done : Entries
+  pub joined : rest ++ done ≡ held
+  pub blocks : now ≡ overlay done stored
+
+pub set-none : (held : Entries) (stored : Blocks) (rest : Entries) → rest ≡ held → IsSetFrom held stored stored rest
+set-none held stored rest all =
+    record { done = []; joined = append-nil rest ∙ all; blocks = sym (overlay-nil stored) }
+
+-- an entry on the front is a block that is set
+overlay-front : (es : Entries) (c : Blocks) (n : ℕ) (s : Slot) → n < length c
+    → overlay ((n, s) ∷ es) c ≡ set (overlay es c) n s.bytes
+overlay-front es c n s low =
+    overlay-put es ((n, s) ∷ es) c c n s.bytes refl low
+    (λ k h apart. ap (λ o. bytes_or o (block_at c k)) (lookup-later (n, s) es k apart))
+    (held-some ((n, s) ∷ es) c n s (lookup-here (n, s) es n refl))
+
+-- each entry is found by its number
+found-behind : (rest es : Entries) (n : ℕ) (s : Slot)
+    → (t : Slot) × (lookup (nat_eq n) (rest ++ (n, s) ∷ es) ≡ Some t)
+found-behind [] es n s = (s, lookup-here (n, s) es n refl)
+found-behind (e ∷ rest) es n s = elim (cases_eq n e.0) [
+  | inl here ↦ (e.1, lookup-here e (rest ++ (n, s) ∷ es) n here)
+  | inr other ↦ (let later = found-behind rest es n s in
+      (later.0, lookup-later e (rest ++ (n, s) ∷ es) n other ∙ later.1))
+]
+
+module _ {held : Entries} {stored now : Blocks} {rest : Entries} (left : Entries) (n : ℕ) (s : Slot)
+    (inside : AreInside held (length stored)) (half : IsSetFrom held stored now rest)
+    (is : rest ≡ left ++ (n, s) ∷ []) where
+  whole-set : left ++ (n, s) ∷ half.done ≡ held
+  whole-set = sym (append_assoc left ((n, s) ∷ []) half.done) ∙ ap (λ l. l ++ half.done) (sym is) ∙ half.joined
+
+  within-set : n < length stored
+  unfolding AreInside
+  within-set =
+      let here = found-behind left half.done n s in
+      inside n here.0 (ap (λ es. lookup (nat_eq n) es) (sym whole-set) ∙ here.1)
+
+  pub set-within : n < length now
+  set-within =
+      let long : length now ≡ length stored = ap length half.blocks ∙ length-overlay half.done stored in
+      omega (arith, long, within-set)
+
+  pub set-more : {new : Blocks} → new ≡ set now n s.bytes → IsSetFrom held stored new left
+  set-more put = record {
+    done = (n, s) ∷ half.done;
+    joined = whole-set;
+    blocks = put ∙ ap (λ bs. set bs n s.bytes) half.blocks ∙ sym (overlay-front half.done stored n s within-set);
+  }
+
+pub set-all : {held : Entries} {stored now : Blocks} (rest : Entries) → IsSetFrom held stored now rest → rest ≡ []
+    → now ≡ overlay held stored
+set-all {held} {stored} rest half is =
+    half.blocks ∙ ap (λ es. overlay es stored) (ap (λ l. l ++ half.done) (sym is) ∙ half.joined)
+
+-- what is held is the device's to have
+pub inside-kept : (es : Entries) (c : Blocks) (d : Bool) → AreKept es c d → AreInside es (length c)
+unfolding AreKept AreInside
+inside-kept es c d held k s at = (held k s at).inside
 
 -- ---- what the search for the next block to write finds
 

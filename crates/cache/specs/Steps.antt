@@ -26,3 +26,9 @@ pub record AsBefore {D : Type 0} (old new : Disk D) (Told : Type 0) : Type 0 whe
 -- a step that only reads
 abbrev pub Reads : {D T : Type 0} → (D → List ℕ) → Disk D → Disk D → Result T DeviceFault → (T → Type 0) → Type 0
 Reads identity old new result Told = Steps identity old new result (λ x. AsBefore old new (Told x))
+
+-- the blocks of another disk, over a device like its own
+pub record IsCopy {D : Type 0} (identity : D → List ℕ) (source new : Disk D) : Type 0 where
+  pub blocks : new.blocks ≡ source.blocks
+  pub same_device : identity new.device ≡ identity source.device
+  pub failures : new.failures ≡ source.failures

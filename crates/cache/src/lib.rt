@@ -7,16 +7,18 @@
 //! the device at once.
 #![tactic(auto)]
 
-ghost use Rattle.std.specs.Prelude.{◌≡◌, ℕ, ◌+◌, ◌<◌, ◌≤◌, List, length, IfOk, IfSome, slice_set};
+ghost use Rattle.std.specs.Prelude.{◌≡◌, ℕ, ◌+◌, ◌<◌, ◌≤◌, ◌↔◌, List, length, IfOk, IfSome, IsTrue, slice_set};
+ghost use Rattle.std.specs.Bool.{OnTrue, OnFalse};
 ghost use Rattle.blockdev.specs.Blocks.{AreBlocks, block_at};
 ghost use Rattle.blockdev.specs.Splice.{part, splice};
-ghost use Rattle.cache.specs.Steps.{AsBefore, Reads, Steps};
+ghost use Rattle.cache.specs.Steps.{AsBefore, IsCopy, Reads, Steps};
 
 mod held;
 
 use blockdev::{Block, BlockDev, DeviceFault, Duplicate};
 use held::{
-    Slot, Slots, change, duplicates, make_room, next_to_write, recent, write_now, write_out,
+    Slot, Slots, change, duplicates, make_room, next_to_write, recent, set_held, write_now,
+    write_out,
 };
 use lru::LruCache;
 use std::alloc::{AllocError, Allocator, Global};
@@ -239,5 +241,22 @@ impl<D: Duplicate> Cache<D> {
             held: duplicates(&self.held, alloc)?,
             in_doubt: self.in_doubt,
         })
+    }
+
+    /// Becomes the same blocks over a copy of the device, in the memory that it has: it asks the host for none. The
+    /// device then has what the other cache holds, and none is held. False, and nothing changed, exactly where the two
+    /// devices can't have the same state.
+    pub fn copy_from(&mut self, source: &Cache<D>) -> bool
+        ensures fits { IsTrue result ↔ (D.identity self.old.device ≡ D.identity source.now.device) }
+        ensures copied { OnTrue result (IsCopy D.identity source.now self.new) }
+        ensures same { OnFalse result (self.new ≡ self.old) }
+    {
+        if !self.device.copy_from(&source.device) {
+            return false;
+        }
+        self.held.clear();
+        self.in_doubt = false;
+        set_held(&mut self.device, &source.held);
+        true
     }
 }

@@ -16,6 +16,13 @@ use Rattle.proc.specs.declared.process.Process.{Process}
 use Rattle.proc.specs.Places.{Places, changed_at}
 use Rattle.kernel.specs.Sound.{IsKernel}
 use Rattle.kernel.specs.Whole.{with_space}
+use Rattle.digests.specs.Digest.{by_clock, clock_by, mode_by}
+use Rattle.digests.specs.Reads.{process_by}
+use Rattle.digests.proofs.Common.{opens_mixed, pipes_mixed, places_mixed}
+use Rattle.kernel.proofs.Holding.{slot-map}
+use Rattle.schedules.specs.Alike.{process_set_back, state_set_back}
+use Rattle.unixmodel.specs.Process as unix
+use Rattle.unixmodel.specs.State.{State}
 use Rattle.unixmodel.specs.Console.{Console}
 use Rattle.unixmodel.specs.Memory.{Memory}
 use Rattle.blockdev.specs.declared.DeviceFault.{DeviceFault}
@@ -59,16 +66,42 @@ memory-done h digest now n pages count is all =
     each-all (pages_step h.memory) n (length h.memory) (mix digest pages) now is (all ∙ count)
     ∙ ap (λ k. each (pages_step h.memory) (length h.memory) (mix digest k)) count
 
-place-told : (k : Kernel) (i digest : ℕ) (o : Option Process) → o ≡ slot (loaded k).places i
-    → place_mixed digest (option_map (with_space (view_at k.spaces i)) o)
-    ≡ place_mixed digest (process_at (state_of k) i)
-place-told k i digest o is =
-    ap (λ (p : Option Process). place_mixed digest (option_map (with_space (view_at k.spaces i)) p)) is
-    ∙ ap (place_mixed digest) (sym (process-state k i))
+-- the process of a slot, by a clock that is set back
+abbrev timed : Option ℕ → unix.Process → unix.Process
+timed None p = p
+timed (Some ticks) p = process_set_back ticks p
 
-pub no-place : (k : Kernel) (i digest : ℕ) → None ≡ slot (loaded k).places i
-    → mix digest 0 ≡ place_mixed digest (process_at (state_of k) i)
-no-place k i digest is = place-told k i digest None is
+-- a process with its space
+spaced : (clock : Option ℕ) (h : SpaceView) (o : Option Process)
+    → option_map (with_space h) (option_map (process_by clock) o)
+    ≡ option_map (timed clock) (option_map (with_space h) o)
+spaced None h None = refl
+spaced None h (Some p) = refl
+spaced (Some ticks) h None = refl
+spaced (Some ticks) h (Some p) = refl
+
+timed-none : (o : Option unix.Process) → o ≡ option_map (timed None) o
+timed-none None = refl
+timed-none (Some p) = refl
+
+place-by : (clock : Option ℕ) (s : State) (i : ℕ)
+    → process_at (by_clock clock s) i ≡ option_map (timed clock) (process_at s i)
+unfolding state_set_back
+place-by None s i = timed-none (process_at s i)
+place-by (Some ticks) s i = slot-map (process_set_back ticks) s.places i
+
+place-told : (clock : Option ℕ) (k : Kernel) (i digest : ℕ) (o : Option Process) → o ≡ slot (loaded k).places i
+    → place_mixed digest (option_map (with_space (view_at k.spaces i)) (option_map (process_by clock) o))
+    ≡ place_mixed digest (process_at (by_clock clock (state_of k)) i)
+place-told clock k i digest o is = ap (place_mixed digest)
+    (spaced clock (view_at k.spaces i) o
+    ∙ ap (λ (p : Option Process). option_map (timed clock) (option_map (with_space (view_at k.spaces i)) p)) is
+    ∙ ap (option_map (timed clock)) (sym (process-state k i))
+    ∙ sym (place-by clock (state_of k) i))
+
+pub no-place : (clock : Option ℕ) (k : Kernel) (i digest : ℕ) → None ≡ slot (loaded k).places i
+    → mix digest 0 ≡ place_mixed digest (process_at (by_clock clock (state_of k)) i)
+no-place clock k i digest is = place-told clock k i digest None is
 
 -- a process with its size alone goes in as with its space
 bare-same : (digest : ℕ) (h : SpaceView) (p : Process)
@@ -81,15 +114,17 @@ pub space-there : (k : Kernel) → IsKernel k → (i : ℕ) (p : Process) → So
     → has_space k.spaces i ≡ true
 space-there k sound i p is = sym (match-loaded k sound i) ∙ ap is_some (sym is)
 
-pub place-done : (k : Kernel) (i digest size bare now : ℕ) (p : Process) → Some p ≡ slot (loaded k).places i
-    → size ≡ (view_at k.spaces i).size → bare ≡ bare_mixed digest (with_space (record { memory = []; size = size }) p)
+pub place-done : (clock : Option ℕ) (k : Kernel) (i digest size bare now : ℕ) (p : Process)
+    → Some p ≡ slot (loaded k).places i → size ≡ (view_at k.spaces i).size
+    → bare ≡ bare_mixed digest (with_space (record { memory = []; size = size }) (process_by clock p))
     → now ≡ memory_mixed bare (view_at k.spaces i).memory
-    → now ≡ place_mixed digest (process_at (state_of k) i)
-place-done k i digest size bare now p is long told all =
+    → now ≡ place_mixed digest (process_at (by_clock clock (state_of k)) i)
+place-done clock k i digest size bare now p is long told all =
     let h = view_at k.spaces i in
+    let q = process_by clock p in
     all ∙ ap (λ d. memory_mixed d h.memory)
-    (told ∙ ap (λ (n : ℕ). bare_mixed digest (with_space (record { memory = []; size = n }) p)) long
-    ∙ bare-same digest h p) ∙ place-told k i digest (Some p) is
+    (told ∙ ap (λ (n : ℕ). bare_mixed digest (with_space (record { memory = []; size = n }) q)) long
+    ∙ bare-same digest h q) ∙ place-told clock k i digest (Some p) is
 
 -- ---- the console
 
@@ -120,11 +155,29 @@ rest-of : (t : Places) (change : Process → Process) (o : Option ℕ)
 rest-of t change None = (refl, refl)
 rest-of t change (Some i) = (refl, refl)
 
-pub front-state : (k : Kernel)
-    → (k.ticks ∷ k.table.next_pid ∷ k.table.last ∷ status_number k.halted ∷ []) ≡ front_of (state_of k)
-front-state k = let rest =
+-- nor does a clock that is set back, except for the clock
+by-rest : (clock : Option ℕ) (s : State)
+    → (clock_by clock s.ticks ∷ s.next_pid ∷ s.last ∷ status_number s.halted ∷ []) ≡ front_of (by_clock clock s)
+unfolding state_set_back
+by-rest None s = refl
+by-rest (Some ticks) s = refl
+
+pub front-state : (clock : Option ℕ) (k : Kernel)
+    → (clock_by clock k.ticks ∷ k.table.next_pid ∷ k.table.last ∷ status_number k.halted ∷ [])
+    ≡ front_of (by_clock clock (state_of k))
+front-state clock k = let rest =
     rest-of k.table (on_hart k.spaces) k.spaces.active
-    in ap₂ (λ n l. k.ticks ∷ n ∷ l ∷ status_number k.halted ∷ []) rest.1 rest.0
+    in ap₂ (λ n l. clock_by clock k.ticks ∷ n ∷ l ∷ status_number k.halted ∷ []) rest.1 rest.0
+    ∙ by-rest clock (state_of k)
+
+-- the rest says nothing of the clock
+pub whole-by : (clock : Option ℕ) (s : State) (front : ℕ)
+    → pipes_mixed (opens_mixed (places_mixed (console_mixed front s.console) (by_clock clock s)) s.opens) s.pipes
+    ≡ (let t = by_clock clock s in
+    pipes_mixed (opens_mixed (places_mixed (console_mixed front t.console) t) t.opens) t.pipes)
+unfolding state_set_back
+whole-by None s front = refl
+whole-by (Some ticks) s front = refl
 
 -- ---- files that go into a digest step by step
 

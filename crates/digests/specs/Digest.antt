@@ -7,6 +7,7 @@ use Rattle.std.specs.Prelude.{true, zero, ℕ, ℤ, ◌%◌, ◌*◌, ◌++◌, 
 use Rattle.std.specs.Int.{cast_unsigned, div_ceil, w32}
 use Rattle.std.specs.List.{fold}
 use Rattle.byteorder.specs.Endian.{little_number}
+use Rattle.schedules.specs.Alike.{mode_set_back, state_set_back}
 use Rattle.unixmodel.specs.Console.{Console}
 use Rattle.unixmodel.specs.declared.call.Call.{Call}
 use Rattle.unixmodel.specs.declared.call.Call.TheVariants.{Read, Sleep, Wait, Write}
@@ -157,9 +158,8 @@ node_mixed digest (Some node) =
     contents_mixed (mixed digest (kind_of node ∷ links_of node ∷ size_of node ∷ major_of node ∷ [])) (size_of node)
     (node_bytes node)
 
--- a disk has at most 8192 numbers
 unfoldable pub files_mixed : ℕ → Files → ℕ
-files_mixed digest files = each (λ d n. node_mixed d (slot files n)) 8192 digest
+files_mixed digest files = each (λ d n. node_mixed d (slot files n)) (length files) digest
 
 -- ---- the state
 
@@ -177,3 +177,17 @@ digest_but_files s = pipes_mixed
 
 unfoldable pub digest_of : State → ℕ
 digest_of s = files_mixed (digest_but_files s) s.files
+
+-- the state with its clock set back to 0, where it says what the clock shows
+abbrev pub by_clock : Option ℕ → State → State
+by_clock None s = s
+by_clock (Some ticks) s = state_set_back ticks s
+
+abbrev pub mode_by : Option ℕ → Mode → Mode
+mode_by None mode = mode
+mode_by (Some ticks) mode = mode_set_back ticks mode
+
+-- what the clock shows then
+abbrev pub clock_by : Option ℕ → ℕ → ℕ
+clock_by None ticks = ticks
+clock_by (Some now) ticks = 0

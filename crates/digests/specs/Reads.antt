@@ -1,6 +1,8 @@
--- What goes into a digest of the inode of a node.
-use Rattle.std.specs.Prelude.{List, [], if◌then◌else◌, ℕ, ◌==◌, ◌∷◌}
+-- What goes into a digest of the inode of a node, and of a process.
+use Rattle.std.specs.Prelude.{List, Option, [], if◌then◌else◌, ℕ, ◌==◌, ◌∷◌}
+use Rattle.digests.specs.Digest.{mode_by}
 use Rattle.inode.specs.declared.InodeStat.{InodeStat}
+use Rattle.proc.specs.declared.process.Process.{Process}
 
 -- the major number of a device
 abbrev pub major_told : InodeStat → ℕ
@@ -9,3 +11,7 @@ major_told s = if s.kind == 3 then s.major else 0
 -- what goes in before a node's bytes
 abbrev pub node_numbers : InodeStat → List ℕ
 node_numbers s = s.kind ∷ s.links ∷ s.size ∷ major_told s ∷ []
+
+-- a process, by a clock that is set back
+abbrev pub process_by : Option ℕ → Process → Process
+process_by clock p = record p { mode = mode_by clock p.mode }

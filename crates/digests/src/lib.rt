@@ -10,4 +10,5 @@ mod processes;
 mod whole;
 
 pub use nodes::mix_files;
-pub use whole::digest_but_files;
+pub use processes::process_by;
+pub use whole::{digest_but_files, timeless_but_files};

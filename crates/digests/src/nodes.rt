@@ -13,9 +13,6 @@ use kernel::Kernel;
 use sv39::Translate;
 use tree::DEVICE;
 
-/// How many numbers of nodes a disk has at most.
-const NUMBERS: usize = 8192;
-
 // The major number of a device, and 0 of any other node.
 fn major(stat: InodeStat) -> u64
     ensures { result ≡ major_told stat }
@@ -84,8 +81,9 @@ pub fn mix_files<D: BlockDev, T: Translate>(
     requires { kernel.old.tree.failed ≡ false }
     ensures { ReadsDisk kernel.old kernel.new (λ told. told ≡ files_mixed digest kernel.old.tree.files) result }
 {
+    let numbers = kernel.numbers();
     let mut digest = digest;
-    for number in 0..NUMBERS {
+    for number in 0..numbers {
         digest = mix_node(digest, kernel, number)?;
     }
     Ok(digest)

@@ -1,7 +1,10 @@
 //! How processes go into a digest.
 ghost use Rattle.std.specs.Prelude.{◌≡◌, [], slice_get, true};
 ghost use Rattle.digests.specs.Digest.{bare_mixed, descriptor_number, descriptors_mixed, memory_mixed, mixed};
-ghost use Rattle.digests.specs.Digest.{mode_numbers, page_or_same, place_mixed, places_mixed, waiting_number};
+ghost use Rattle.digests.specs.Digest.{by_clock, mode_by, mode_numbers, page_or_same, place_mixed, places_mixed};
+ghost use Rattle.digests.specs.Digest.{waiting_number};
+ghost use Rattle.digests.specs.Reads.{process_by};
+ghost use Rattle.schedules.specs.Alike.{set_back};
 ghost use Rattle.kernel.specs.Kernel.{state_of};
 ghost use Rattle.kernel.specs.Whole.{with_space};
 ghost use Rattle.spaces.specs.Spaces.{has_space, view_at};
@@ -14,7 +17,7 @@ use proc::{PLACES, Process};
 use spaces::Spaces;
 use sv39::Translate;
 use unixmodel::call::Call;
-use unixmodel::process::Mode;
+use unixmodel::process::{Mode, Pending};
 
 // The number of a call that can wait.
 fn waiting_number(call: Call) -> u64
@@ -26,6 +29,32 @@ fn waiting_number(call: Call) -> u64
         Call::Sleep => 13,
         Call::Write => 16,
         _ => 0,
+    }
+}
+
+// A pending call, by a clock that is set back from this count of ticks to 0.
+#[tactic(auto, unfolding(schedules::specs::Alike::set_back))]
+fn set_back(ticks: u32, pending: Pending) -> Pending
+    ensures { result ≡ set_back ticks pending }
+{
+    let since = if matches!(pending.number, Call::Sleep) {
+        0u32.wrapping_sub(ticks.wrapping_sub(pending.since))
+    } else {
+        0
+    };
+    Pending { since, ..pending }
+}
+
+// What a process is doing, by a clock that is set back, where it says what the clock shows.
+fn mode_by(clock: Option<u32>, mode: Mode) -> Mode
+    ensures { result ≡ mode_by clock mode }
+{
+    let Some(ticks) = clock else {
+        return mode;
+    };
+    match mode {
+        Mode::Waiting(pending) => Mode::Waiting(set_back(ticks, pending)),
+        other => other,
     }
 }
 
@@ -114,27 +143,47 @@ fn mix_memory<T: Translate>(digest: u64, spaces: &Spaces<T>, at: usize) -> u64
     digest
 }
 
-// The process of a slot goes in.
-fn mix_place<D: BlockDev, T: Translate>(digest: u64, kernel: &Kernel<D, T>, at: usize) -> u64
-    ensures { result ≡ place_mixed digest (process_at (state_of kernel.now) at) }
+/// A process, by a clock that is set back, where it says what the clock shows.
+pub fn process_by(clock: Option<u32>, process: Process) -> Process
+    ensures { result ≡ process_by clock process }
+{
+    Process {
+        mode: mode_by(clock, process.mode),
+        ..process
+    }
+}
+
+// The process of a slot goes in, by a clock that is set back.
+fn mix_place<D: BlockDev, T: Translate>(
+    digest: u64,
+    kernel: &Kernel<D, T>,
+    clock: Option<u32>,
+    at: usize,
+) -> u64
+    ensures { result ≡ place_mixed digest (process_at (by_clock clock (state_of kernel.now)) at) }
 {
     match kernel.whole(at) {
         None => mix(digest, 0),
         Some(process) => {
             kernel.is_sound();
             let spaces = kernel.spaces();
+            let process = process_by(clock, process);
             mix_memory(mix_process(digest, &process, spaces.size(at)), spaces, at)
         }
     }
 }
 
-/// All processes go in.
-pub fn mix_places<D: BlockDev, T: Translate>(digest: u64, kernel: &Kernel<D, T>) -> u64
-    ensures { result ≡ places_mixed digest (state_of kernel.now) }
+/// All processes go in, by a clock that is set back, where it says what the clock shows.
+pub fn mix_places<D: BlockDev, T: Translate>(
+    digest: u64,
+    kernel: &Kernel<D, T>,
+    clock: Option<u32>,
+) -> u64
+    ensures { result ≡ places_mixed digest (by_clock clock (state_of kernel.now)) }
 {
     let mut digest = digest;
     for at in 0..PLACES {
-        digest = mix_place(digest, kernel, at);
+        digest = mix_place(digest, kernel, clock, at);
     }
     digest
 }

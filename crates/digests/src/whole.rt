@@ -1,6 +1,7 @@
 //! The digest of everything except the files.
 ghost use Rattle.std.specs.Prelude.{◌≡◌, ◌∷◌, []};
-ghost use Rattle.digests.specs.Digest.{digest_but_files, front_of, mixed, start, status_number};
+ghost use Rattle.digests.specs.Digest.{by_clock, clock_by, digest_but_files, front_of, mixed, start, status_number};
+ghost use Rattle.schedules.specs.Alike.{timeless};
 ghost use Rattle.kernel.specs.Kernel.{state_of};
 
 use crate::mixing::mix_numbers;
@@ -37,19 +38,46 @@ fn mix_counts(ticks: u32, table: &Table, halted: Option<i32>) -> u64
     mix_numbers(START, &numbers)
 }
 
-// The same of a kernel.
-fn mix_front<D: BlockDev, T: Translate>(kernel: &Kernel<D, T>) -> u64
-    ensures { result ≡ mixed start (front_of (state_of kernel.now)) }
+// What a clock shows that is set back, or isn't.
+fn clock_by(clock: Option<u32>, ticks: u32) -> u32
+    ensures { result ≡ clock_by clock ticks }
 {
-    mix_counts(kernel.ticks(), kernel.table(), kernel.halted())
+    match clock {
+        None => ticks,
+        Some(_) => 0,
+    }
+}
+
+// The same of a kernel.
+fn mix_front<D: BlockDev, T: Translate>(kernel: &Kernel<D, T>, clock: Option<u32>) -> u64
+    ensures { result ≡ mixed start (front_of (by_clock clock (state_of kernel.now))) }
+{
+    mix_counts(
+        clock_by(clock, kernel.ticks()),
+        kernel.table(),
+        kernel.halted(),
+    )
+}
+
+// The digest of a state, except its files, by a clock that is set back, where it says what the clock shows.
+fn digest_by<D: BlockDev, T: Translate>(kernel: &Kernel<D, T>, clock: Option<u32>) -> u64
+    ensures { result ≡ digest_but_files (by_clock clock (state_of kernel.now)) }
+{
+    let digest = mix_console(mix_front(kernel, clock), kernel.console());
+    let digest = mix_opens(mix_places(digest, kernel, clock), kernel);
+    mix_pipes(digest, kernel)
 }
 
 /// The digest of a state, except its files: they go in by `mix_files`.
-#[tactic(auto, unfolding(crate::specs::Digest::digest_but_files))]
 pub fn digest_but_files<D: BlockDev, T: Translate>(kernel: &Kernel<D, T>) -> u64
     ensures { result ≡ digest_but_files (state_of kernel.now) }
 {
-    let digest = mix_console(mix_front(kernel), kernel.console());
-    let digest = mix_opens(mix_places(digest, kernel), kernel);
-    mix_pipes(digest, kernel)
+    digest_by(kernel, None)
+}
+
+/// The same by a clock that is set back to 0: of the clock it has only for how long each sleeper has slept.
+pub fn timeless_but_files<D: BlockDev, T: Translate>(kernel: &Kernel<D, T>) -> u64
+    ensures { result ≡ digest_but_files (timeless (state_of kernel.now)) }
+{
+    digest_by(kernel, Some(kernel.ticks()))
 }

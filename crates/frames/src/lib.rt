@@ -93,6 +93,17 @@ impl Frames {
         }
     }
 
+    /// Becomes the same free frames with the same holders, for a copy of the memory.
+    pub fn copy_from(&mut self, source: &Frames)
+        requires { length self.old.holders.items ≡ length source.now.holders.items }
+        ensures { IsDuplicate source.now self.new }
+    {
+        self.first = source.first;
+        self.count = source.count;
+        self.holders.copy_from_slice(source.holders.as_slice());
+        self.shared = source.shared;
+    }
+
     /// How many frames could be taken still, if each holder had frames of its own: all frames, less the sum of
     /// all counts of holders.
     pub fn free(&self) -> u32

@@ -1,4 +1,5 @@
 -- What steps of a disk mean for a volume's nodes.
+use Rattle.layout.specs.Kinds.{kind_minor}
 use Rattle.inode.proofs.Common.{◌≡◌, ◌∙◌, ℕ, Bool, List, None, Option, Some, ap, arith, inl, inr, length, refl, subst}
 use Rattle.inode.proofs.Common.{sym, IsSome, false≢true, ◌⊎◌, unwrap_or, cases_eq, cases_lt, get_or_past, Disk, node_in}
 use Rattle.inode.proofs.Common.{IsNode, IsWhole, no_node, Blocks, raw_at, store_over, used_by, Geometry, IsInode}
@@ -88,6 +89,9 @@ module _ {blocks : Blocks} {inodes n : ℕ} (used : IsInode blocks inodes n) whe
 
   pub told-raw : (s : InodeStat) → IsTold (node_in blocks n) s → IsTold raw s
   told-raw s = of-raw (λ raw. IsTold raw s)
+
+  pub minor-raw : (minor : ℕ) → minor ≡ kind_minor (node_in blocks n).kind → minor ≡ kind_minor raw.kind
+  minor-raw minor = of-raw (λ raw. minor ≡ kind_minor raw.kind)
 
   pub read-raw : {at : ℕ} {old new : List ℕ} (k : ℕ) → IsReadInto (bytes_of blocks n) at old new k
       → IsReadInto raw.bytes at old new k

@@ -60,6 +60,17 @@ pub record IsWhole {D : Type 0} (s : Store D) : Type 0 where
   pub most : s.geometry.inodes ≤ 8192
   pub each : (n : ℕ) (node : RawNode) → slot s.nodes n ≡ Some node → IsNode n node
 
+-- ---- copies
+
+-- the files of another disk, over a device like its own
+pub record IsCopy {D : Type 0} (identity : D → List ℕ) (source new : Store D) : Type 0 where
+  pub geometry : new.geometry ≡ source.geometry
+  pub nodes : new.nodes ≡ source.nodes
+  pub free : new.free ≡ source.free
+  pub same_device : identity new.device ≡ identity source.device
+  pub failures : new.failures ≡ source.failures
+  pub failed : new.failed ≡ source.failed
+
 -- ---- what calls return
 
 -- the numbers are as they were, and the device is the same

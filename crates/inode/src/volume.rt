@@ -1,17 +1,20 @@
 //! A disk with files, by the numbers of their inodes.
 
 ghost use Rattle.std.specs.Prelude.{◌≡◌, ◌≢◌, ◌+◌, ◌<◌, ◌≤◌, IfOk, IsSome, None, OnOk, false, length, nat_le};
-ghost use Rattle.std.specs.Prelude.{slice_set, take};
+ghost use Rattle.std.specs.Prelude.{slice_set, take, IsTrue, ◌↔◌};
+ghost use Rattle.std.specs.Bool.{OnTrue, OnFalse};
 ghost use Rattle.inode.specs.Looking.{IsTold, TellsAny};
 ghost use Rattle.inode.specs.Reading.{IsReadInto};
-ghost use Rattle.inode.specs.Store.{Changes, Flushed, HasLinks, IsEmptied, IsWhole, LacksWriting, Looks, Serves};
+ghost use Rattle.inode.specs.Store.{Changes, Flushed, HasLinks, IsCopy, IsEmptied, IsWhole, LacksWriting, Looks};
+ghost use Rattle.inode.specs.Store.{Serves};
 ghost use Rattle.inode.specs.Store.{TakesLowest, Tries, Writes, WritesFrom, is_device, raw_at, store_over};
 ghost use Rattle.balloc.specs.Inodes.{fresh_node};
+ghost use Rattle.layout.specs.Kinds.{kind_minor};
 ghost use Rattle.layout.specs.Sound.{IsSound};
 ghost use Rattle.unixmodel.specs.Files.{slot};
 
 use crate::empty::truncate;
-use crate::read::{look, read_at, stat};
+use crate::read::{look, minor, read_at, stat};
 use crate::write::{Outcome, set_links, write_at};
 use crate::{InodeFault, InodeStat};
 use balloc::{give_inode, has_blocks, take_inode, take_inode_at};
@@ -106,6 +109,18 @@ impl<D: BlockDev> Volume<D> {
         ensures { Looks D.identity self.old self.new result (IsTold (raw_at self.old.nodes number)) }
     {
         let result = stat(&mut self.disk, self.geometry, number);
+        self.failed = result.is_err();
+        result
+    }
+
+    /// The minor number of a node; 0 where it is no device.
+    pub fn minor(&mut self, number: usize) -> Result<u16, DeviceFault>
+        requires up { self.old.failed ≡ false }
+        requires node { IsSome (slot self.old.nodes number) }
+        ensures { Looks D.identity self.old self.new result
+            (λ minor. minor ≡ kind_minor (raw_at self.old.nodes number).kind) }
+    {
+        let result = minor(&mut self.disk, self.geometry, number);
         self.failed = result.is_err();
         result
     }
@@ -253,5 +268,20 @@ impl<D: Duplicate> Volume<D> {
             geometry: self.geometry,
             failed: self.failed,
         })
+    }
+
+    /// Becomes the same files over a copy of the disk, in the memory that it has: it asks the host for none. False, and
+    /// nothing changed, exactly where the two devices can't have the same state.
+    pub fn copy_from(&mut self, source: &Volume<D>) -> bool
+        ensures fits { IsTrue result ↔ (D.identity self.old.device ≡ D.identity source.now.device) }
+        ensures copied { OnTrue result (IsCopy D.identity source.now self.new) }
+        ensures same { OnFalse result (self.new ≡ self.old) }
+    {
+        if !self.disk.copy_from(&source.disk) {
+            return false;
+        }
+        self.geometry = source.geometry;
+        self.failed = source.failed;
+        true
     }
 }

@@ -7,6 +7,7 @@ pub mod Changes
 pub mod Steps
 pub mod Memories
 pub mod Readies
+mod Pending
 pub mod Watching
 pub mod Turning
 pub mod Working

@@ -155,7 +155,7 @@ at_or_before k t h = grind arith
 
 module _ (test : ℕ → Bool) (place : ℕ → ℕ) where
   -- the first number from k on whose slot passes
-  find_first : (n k t : ℕ) → k ≤ t → t < k + n → test (place t) ≡ true
+  pub find_first : (n k t : ℕ) → k ≤ t → t < k + n → test (place t) ≡ true
       → ((j : ℕ) → k ≤ j → j < t → test (place j) ≡ false) → find test (map place (range_with_len k n)) ≡ Some (place t)
   find_first zero k t low high passes before = absurd (omega arith)
   find_first (suc n) k t low high passes before =
@@ -165,7 +165,7 @@ module _ (test : ℕ → Bool) (place : ℕ → ℕ) where
             in rw here (find_first n (k + 1) t (omega arith) (omega arith) passes (λ j l h. before j (omega arith) h)))
       ]
 
-  find_none : (n k : ℕ) → ((j : ℕ) → k ≤ j → j < k + n → test (place j) ≡ false)
+  pub find_none : (n k : ℕ) → ((j : ℕ) → k ≤ j → j < k + n → test (place j) ≡ false)
       → find test (map place (range_with_len k n)) ≡ None
   find_none zero k none = refl
   find_none (suc n) k none =

@@ -20,6 +20,10 @@ running_pid s = option_map (λ (p : Process). p.pid) (running_process s)
 abbrev pub is_idle : State → Bool
 is_idle s = is_none (running s) && is_none (turn s)
 
+-- the pid of the process that a turn picks
+abbrev pub picked_pid : State → Option ℕ
+picked_pid s = option_map (λ (p : Process). p.pid) (option_and_then (process_at s) (turn s))
+
 -- ---- who sleeps
 
 abbrev pub is_sleep : Call → Bool

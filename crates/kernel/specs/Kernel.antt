@@ -13,6 +13,7 @@ use Rattle.unixmodel.specs.declared.process.Mode.{Mode}
 use Rattle.unixmodel.specs.declared.process.Mode.TheVariants.{Ready, Running, Waiting}
 use Rattle.unixmodel.specs.declared.process.Pending.{Pending}
 use Rattle.unixmodel.specs.Console.{Console}
+use Rattle.tree.specs.Tree as tree
 use Rattle.tree.specs.Tree.{FileTree}
 use Rattle.unixmodel.specs.Files.{Files, slot}
 use Rattle.unixmodel.specs.Meaning.{Computed}
@@ -37,6 +38,16 @@ pub record Kernel : Type 0 where
 -- the count of the device's failures is another
 abbrev pub counting : Kernel → ℕ → Kernel
 counting k failures = record k { tree = record k.tree { failures = failures } }
+
+-- a kernel can become a copy of another: it has as many frames, and its disk is like the other's
+pub record HasRoomFor (source k : Kernel) : Type 0 where
+  pub frames : k.spaces.frames ≡ source.spaces.frames
+  pub disk : tree.HasRoomFor source.tree k.tree
+
+-- so it can where no access of the two devices has failed, and the disks have as many numbers of nodes
+pub record IsAsLarge (source k : Kernel) : Type 0 where
+  pub frames : k.spaces.frames ≡ source.spaces.frames
+  pub disk : tree.IsAsLarge source.tree k.tree
 
 -- another mask of awake slots
 abbrev pub waking : Kernel → List Bool → Kernel

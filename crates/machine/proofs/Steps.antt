@@ -21,6 +21,7 @@ use Rattle.machine.specs.Saved.{IsLost, IsSaved, LosesDevice}
 use Rattle.unixmodel.specs.OpenFiles.{OpenFile, is_node}
 use Rattle.unixmodel.specs.Reap.{is_used, kept, reap, without_nodes, without_opens, without_pipes}
 use Rattle.digests.specs.Digest.{digest_but_files, digest_of, files_mixed}
+use Rattle.schedules.specs.Alike.{state_set_back, timeless}
 use Rattle.blockdev.specs.Splice.{part}
 use Rattle.inode.specs.declared.InodeStat.{InodeStat}
 use Rattle.machine.specs.Looks.{IsRead, stat_from, stat_seen}
@@ -287,3 +288,8 @@ pub digest-told : {but digest : ℕ} (k : Kernel) → but ≡ digest_but_files (
     → digest ≡ files_mixed but k.tree.files → digest ≡ digest_of (state_of k)
 unfolding digest_of
 digest-told k but_is is = is ∙ ap (λ d. files_mixed d k.tree.files) but_is
+
+pub timeless-told : {but digest : ℕ} (k : Kernel) → but ≡ digest_but_files (timeless (state_of k))
+    → digest ≡ files_mixed but k.tree.files → digest ≡ digest_of (timeless (state_of k))
+unfolding digest_of state_set_back
+timeless-told k but_is is = is ∙ ap (λ d. files_mixed d k.tree.files) but_is

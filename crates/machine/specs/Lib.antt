@@ -8,3 +8,4 @@ pub mod Saved
 pub mod Booted
 pub mod Holdings
 pub mod Pieces
+pub mod Copies

@@ -209,6 +209,17 @@ impl Table {
         })
     }
 
+    /// Becomes the same processes in the same slots, in the memory that it has.
+    pub fn copy_from(&mut self, source: &Table)
+        ensures { self.new ≡ source.now }
+    {
+        self.places.copy_from_slice(source.places.as_slice());
+        self.last = source.last;
+        self.next_pid = source.next_pid;
+        self.awake = source.awake.duplicate();
+        self.waiting = source.waiting.duplicate();
+    }
+
     /// All slots.
     pub fn places(&self) -> &[Place]
         ensures places { result.now ≡ self.now.places }

@@ -156,6 +156,14 @@ impl Ram {
         }
     }
 
+    /// Becomes a memory with the same bytes as one of as many frames, in the memory of the host that it has.
+    pub fn copy_from(&mut self, source: &Ram)
+        requires { length self.old ≡ length source.now }
+        ensures { self.new ≡ source.now }
+    {
+        self.frames.copy_from_slice(source.frames.as_slice());
+    }
+
     /// How many frames there are.
     #[inline]
     pub fn frame_count(&self) -> u32

@@ -39,7 +39,7 @@ ghost use Rattle.unixmodel.specs.Turn.{is_empty};
 ghost use Rattle.unixmodel.specs.Translation.{HoldsInside, HoldsNothing, IsKept, Translation};
 ghost use Rattle.hart.specs.Follows.{Follows};
 ghost use Rattle.sv39.specs.Mapping.{Mapped, Shows, memory_of};
-ghost use Rattle.vm.specs.Leaf.{marks_from, page_from};
+ghost use Rattle.vm.specs.Leaf.{kept_from, marks_from, page_from};
 ghost use Rattle.vm.specs.Reach.{IsSized, piece_at, short_string, string_in};
 ghost use Rattle.vm.specs.Space.{IsMapped, pages_in, pages_of};
 
@@ -54,7 +54,7 @@ use std::alloc::Global;
 use std::marker::Model;
 use sv39::Translate;
 use unixmodel::trap::{Access, Cause, Trap};
-use vm::{Perm, Space};
+use vm::{Marks, Perm, Space};
 
 /// How many slots there are.
 pub const PLACES: usize = 64;
@@ -311,6 +311,29 @@ impl<T: Translate> Spaces<T> {
         })
     }
 
+    /// Becomes the same spaces, pipes and registers over a copy of a memory of as many frames, in the memory of the
+    /// host that it has. Its own translator is fenced; decoded words stay, of which none says anything of a memory.
+    pub fn copy_from<U: Translate>(&mut self, source: &Spaces<U>)
+        requires { self.old.frames ≡ source.now.frames }
+        ensures { self.new ≡ source.now }
+    {
+        self.ram.copy_from(&source.ram);
+        self.frames.copy_from(&source.frames);
+        let translator = &mut self.translator;
+        translator.fence();
+        self.places = duplicate_places(&source.places);
+        self.hart = source.hart.duplicate();
+        self.active = source.active;
+        self.pipes = duplicate_pipes(&source.pipes);
+    }
+
+    /// How many frames there are.
+    pub fn frame_count(&self) -> u32
+        ensures { result ≡ self.now.frames }
+    {
+        self.ram.frame_count()
+    }
+
     /// How many frames are free.
     pub fn free(&self) -> u32
         ensures { result + taken_frames self.now ≡ self.now.frames }
@@ -411,6 +434,17 @@ impl<T: Translate> Spaces<T> {
         let space = space_at(&self.places, at);
         let (frame, marks) = space.find_page(&self.ram, n)?;
         Some((self.ram.frame(frame), marks.perm))
+    }
+
+    /// The bytes and the marks of a page of a slot, with whether a fork had it; `None` past the last one.
+    pub fn kept_page(&self, at: usize, n: u64) -> Option<(&[u8; FRAME_SIZE], Marks)>
+        requires { has_space self.now at ≡ true }
+        ensures { option_map kept_from result ≡ slice_get (view_at self.now at).memory n }
+    {
+        let space = space_at(&self.places, at);
+        let ram = &self.ram;
+        let (frame, marks) = space.find_page(ram, n)?;
+        Some((ram.frame(frame), marks))
     }
 
     /// The memory, and the frame of the root of a slot's page table.

@@ -19,3 +19,9 @@ TellsAny None None = ⊤
 TellsAny None (Some node) = ⊥
 TellsAny (Some s) None = ⊥
 TellsAny (Some s) (Some node) = Tells s node
+
+-- the minor number of a device
+abbrev pub minor_of : Node → ℕ
+minor_of (File links bytes) = 0
+minor_of (Device links major minor) = minor
+minor_of (Directory links places) = 0

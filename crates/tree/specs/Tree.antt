@@ -47,6 +47,18 @@ pub record IsInside {D : Type 0} (t : Inside D) : Type 0 where
   pub count : length t.holds.items ≡ t.volume.geometry.inodes
   pub held : t.volume.failed ≡ false → IsFileSystem t.volume
 
+-- a disk can become a copy of another: the devices are alike, with as many numbers of nodes
+pub record HasRoomFor (source t : FileTree) : Type 0 where
+  pub same_device : t.identity ≡ source.identity
+  pub numbers : length t.holds ≡ length source.holds
+
+-- so it can where both are in use and no access has failed, and the devices are alike, with as many numbers
+pub record IsAsLarge (source t : FileTree) : Type 0 where
+  pub up : t.failed ≡ false
+  pub source_up : source.failed ≡ false
+  pub same_device : t.identity ≡ source.identity
+  pub numbers : length t.files ≡ length source.files
+
 -- what a call on a file system returns: on success its condition holds, and no access has failed; an error is returned
 -- only where the device counts a failure. The device is the same
 pub record Serves {T : Type 0} (old new : FileTree) (result : Result T DeviceFault) (Told : T → Type 0) : Type 0 where

@@ -1,14 +1,15 @@
 //! A file system in use.
 
 ghost use Rattle.std.specs.Prelude.{◌≡◌, ◌≢◌, ℕ, ◌+◌, ◌-◌, ◌<◌, ◌≤◌, List, Option, Some, None, IfOk, OnOk, false};
-ghost use Rattle.std.specs.Prelude.{length, nat_le, replicate, slice_set};
+ghost use Rattle.std.specs.Prelude.{length, nat_le, replicate, slice_set, IsTrue, ◌↔◌};
+ghost use Rattle.std.specs.Bool.{OnTrue, OnFalse};
 ghost use Rattle.inode.specs.Store.{Store};
 ghost use Rattle.tree.specs.Stored.{IsFileSystem, IsStored};
 ghost use Rattle.tree.specs.Holding.{holders, with_hold, without_hold};
 ghost use Rattle.tree.specs.Entering.{fresh};
 ghost use Rattle.tree.specs.Steps.{IsUnnamed, Reads, Rewrites, TakesNode, Tries, Turns};
-ghost use Rattle.tree.specs.Telling.{Tells, TellsAny};
-ghost use Rattle.tree.specs.Tree.{Looks, Serves, tree_over};
+ghost use Rattle.tree.specs.Telling.{Tells, TellsAny, minor_of};
+ghost use Rattle.tree.specs.Tree.{HasRoomFor, IsAsLarge, Looks, Serves, tree_over};
 ghost use Rattle.tree.specs.Whole.{IsWhole};
 ghost use Rattle.tree.specs.Written.{IsFile, written};
 ghost use Rattle.unixmodel.specs.Counts.{blocks_of};
@@ -150,6 +151,26 @@ impl<D: BlockDev> Tree<D> {
             (λ s. (node : Node) → slot self.old.files number ≡ Some node → Tells s node) }
     {
         self.node(number)
+    }
+
+    /// The minor number of a node; 0 where it is no device.
+    pub fn minor(&mut self, number: usize) -> Result<u16, DeviceFault>
+        requires up { self.old.failed ≡ false }
+        requires node { (node : Node) × (slot self.old.files number ≡ Some node) }
+        ensures { Looks self.old self.new result
+            (λ minor. (node : Node) → slot self.old.files number ≡ Some node → minor ≡ minor_of node) }
+    {
+        self.volume.minor(number)
+    }
+
+    /// Whether another disk has as many blocks, and as many of them for data.
+    pub fn is_as_large<E: BlockDev>(&self, other: &Tree<E>) -> bool
+        ensures size { OnTrue result (self.now.size ≡ other.now.size) }
+        ensures limit { OnTrue result (self.now.block_limit ≡ other.now.block_limit) }
+    {
+        let own = self.volume.geometry();
+        let their = other.volume.geometry();
+        own.size == their.size && own.inodes == their.inodes
     }
 
     /// One more open file or working directory holds a node: it stays until that lets go, also where its last name
@@ -306,5 +327,24 @@ impl<D: Duplicate> Tree<D> {
             volume: self.volume.duplicate(alloc)?,
             holds: Vec::from_slice(alloc, self.holds.as_slice())?,
         })
+    }
+
+    /// Becomes the same files over a copy of the disk, with the same holders, in the memory that it has: it asks the
+    /// host for none. False, and nothing changed, exactly where the two devices can't have the same state, or differ in
+    /// how many numbers of nodes they have.
+    pub fn copy_from(&mut self, source: &Tree<D>) -> bool
+        ensures fits { IsTrue result ↔ HasRoomFor source.now self.old }
+        ensures large { IsAsLarge source.now self.old → IsTrue result }
+        ensures copied { OnTrue result (self.new ≡ source.now) }
+        ensures same { OnFalse result (self.new ≡ self.old) }
+    {
+        if self.holds.len() != source.holds.len() {
+            return false;
+        }
+        if !self.volume.copy_from(&source.volume) {
+            return false;
+        }
+        self.holds.copy_from_slice(source.holds.as_slice());
+        true
     }
 }

@@ -47,6 +47,10 @@ page_from told = record { bytes = told.0.now; marks = marks_from told.1 }
 abbrev pub rights_from : Marks → Rights
 rights_from m = record { writable = m.perm.w; executable = m.perm.x; user = m.perm.u; shared = m.shared }
 
+-- the page, by its bytes and the marks that the kernel keeps
+abbrev pub kept_from : Bor (List ℕ) × Marks → Page
+kept_from told = record { bytes = told.0.now; marks = rights_from told.1 }
+
 -- an entry of a mapping, by its parts
 abbrev pub mapped_as : ℕ → Marks → Mapped
 mapped_as frame marks = record { frame = frame; marks = rights_from marks }

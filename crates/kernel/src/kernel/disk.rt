@@ -1,10 +1,11 @@
 //! The kernel's steps on the files of its disk.
-ghost use Rattle.std.specs.Prelude.{◌≡◌, ◌≢◌, All, IsSome, None, OnOk, Some, false};
+ghost use Rattle.std.specs.Prelude.{◌≡◌, ◌≢◌, All, IsSome, None, OnOk, Some, false, length};
+ghost use Rattle.std.specs.Bool.{OnTrue};
 ghost use Rattle.kernel.specs.Disk.{FilesDisk, ReadsDisk, directory_at, with_tree};
 ghost use Rattle.names.specs.Rules.{KeepsTree};
 ghost use Rattle.tree.specs.Calls.{IsPart, MakesDirectory, MakesLink, MakesNode, TakesName};
 ghost use Rattle.tree.specs.Leaves.{leaf_node};
-ghost use Rattle.tree.specs.Telling.{Tells, TellsAny};
+ghost use Rattle.tree.specs.Telling.{Tells, TellsAny, minor_of};
 ghost use Rattle.tree.specs.Whole.{IsWhole};
 ghost use Rattle.unixmodel.specs.Files.{Node, change_node, find, slot};
 ghost use Rattle.unixmodel.specs.NameCalls.{emptied};
@@ -74,6 +75,36 @@ impl<D: BlockDev, T: Translate> Kernel<D, T> {
         ensures { ReadsDisk self.old self.new (λ told. TellsAny told (slot self.old.tree.files number)) result }
     {
         self.tree.look(number)
+    }
+
+    /// The minor number of a node; 0 where it is no device.
+    #[inline]
+    pub fn minor(&mut self, number: usize) -> Result<u16, DeviceFault>
+        requires up { self.old.tree.failed ≡ false }
+        requires node { (node : Node) × (slot self.old.tree.files number ≡ Some node) }
+        ensures { ReadsDisk self.old self.new
+            (λ minor. (node : Node) → slot self.old.tree.files number ≡ Some node → minor ≡ minor_of node) result }
+    {
+        self.tree.minor(number)
+    }
+
+    /// How many numbers of nodes the disk has.
+    #[inline]
+    pub fn numbers(&self) -> usize
+        requires { self.now.tree.failed ≡ false }
+        ensures { result ≡ length self.now.tree.files }
+    {
+        self.tree.numbers()
+    }
+
+    /// Whether another kernel has as many frames, and a disk of as many blocks, as many of them for data.
+    #[inline]
+    pub fn is_as_large<E: BlockDev, U: Translate>(&self, other: &Kernel<E, U>) -> bool
+        ensures frames { OnTrue result (self.now.spaces.frames ≡ other.now.spaces.frames) }
+        ensures blocks { OnTrue result (self.now.tree.block_limit ≡ other.now.tree.block_limit) }
+    {
+        self.spaces.frame_count() == other.spaces.frame_count()
+            && self.tree.is_as_large(&other.tree)
     }
 
     /// Reads bytes of the node with any number from offset `from` on, as many as there are, and returns how many: none

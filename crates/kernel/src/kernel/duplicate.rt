@@ -1,5 +1,7 @@
-//! A duplicate of a kernel, which goes on by itself.
-ghost use Rattle.std.specs.Prelude.{◌≡◌, IfOk};
+//! Copies of a kernel, which go on by themselves.
+ghost use Rattle.std.specs.Prelude.{◌≡◌, ◌↔◌, IfOk, IsTrue};
+ghost use Rattle.std.specs.Bool.{OnTrue, OnFalse};
+ghost use Rattle.kernel.specs.Kernel.{HasRoomFor, IsAsLarge};
 
 use crate::kernel::Kernel;
 use blockdev::Duplicate;
@@ -35,5 +37,29 @@ impl<D: Duplicate, T: Translate> Kernel<D, T> {
             }),
             Err(_) => Err(NoMemory),
         }
+    }
+
+    /// Becomes the same kernel over a copy of the memory and of the disk, in the memory of the host that it has; its
+    /// own translator is fenced. False exactly where the two have another number of frames or of numbers of nodes, or
+    /// where the devices can't have the same state; nothing changed then.
+    pub fn copy_from<U: Translate>(&mut self, source: &Kernel<D, U>) -> bool
+        ensures fits { IsTrue result ↔ HasRoomFor source.now self.old }
+        ensures large { IsAsLarge source.now self.old → IsTrue result }
+        ensures copied { OnTrue result (self.new ≡ source.now) }
+        ensures same { OnFalse result (self.new ≡ self.old) }
+    {
+        if self.spaces.frame_count() != source.spaces.frame_count() {
+            return false;
+        }
+        if !self.tree.copy_from(&source.tree) {
+            return false;
+        }
+        self.spaces.copy_from(&source.spaces);
+        self.table.copy_from(&source.table);
+        self.files = source.files.duplicate();
+        self.console = source.console.duplicate();
+        self.ticks = source.ticks;
+        self.halted = source.halted;
+        true
     }
 }

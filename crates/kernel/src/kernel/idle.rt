@@ -3,8 +3,8 @@ ghost use Rattle.std.specs.Prelude.{◌≡◌, None};
 ghost use Rattle.std.specs.List.{list_any};
 ghost use Rattle.files.specs.Pipes.{IsPiped};
 ghost use Rattle.files.specs.Places.{opens_of};
-ghost use Rattle.kernel.specs.Idle.{is_anyone_asleep, is_idle, is_sleep, is_sleeping_mode, running_pid};
-ghost use Rattle.kernel.specs.Kernel.{state_of};
+ghost use Rattle.kernel.specs.Idle.{is_anyone_asleep, is_idle, is_sleep, is_sleeping_mode, picked_pid, running_pid};
+ghost use Rattle.kernel.specs.Kernel.{state_of, ticked};
 ghost use Rattle.kernel.specs.Ready.{awaited, seen};
 ghost use Rattle.proc.specs.declared.process.Process.{Process};
 ghost use Rattle.unixmodel.specs.State.{holds};
@@ -13,7 +13,7 @@ ghost use Rattle.unixmodel.specs.Turn.{ready, turn};
 use crate::kernel::Kernel;
 use crate::ready::Awaited;
 use blockdev::BlockDev;
-use proc::Place;
+use proc::{PLACES, Place};
 use sv39::Translate;
 use unixmodel::call::Call;
 use unixmodel::process::Mode;
@@ -57,6 +57,50 @@ impl<D: BlockDev, T: Translate> Kernel<D, T> {
                 ensures { result ≡ ready (seen (awaited now.entry) places.now) at }
             { now.is_ready(places, at) },
         )
+    }
+
+    // Whether the process in a slot is ready once a timer interrupt has come.
+    fn is_ready_next(&self, at: usize) -> bool
+        ensures { result ≡ ready (state_of (ticked self.now)) at }
+    {
+        self.is_sound();
+        if self.active() == Some(at) {
+            return true;
+        }
+        let next = Awaited {
+            ticks: self.ticks.wrapping_add(1),
+            console: &self.console,
+            files: &self.files,
+            spaces: &self.spaces,
+        };
+        next.is_ready(self.table.places(), at)
+    }
+
+    // The slot of the process whose turn it is once a timer interrupt has come. Who sleeps may be ready then, so it
+    // looks at all slots.
+    fn turn_next(&self) -> Option<usize>
+        ensures { result ≡ turn (state_of (ticked self.now)) }
+    {
+        let _places = self.table.places();
+        let last = self.table.last();
+        for round in 1..PLACES + 1 {
+            let at = (last + round) % PLACES;
+            if self.is_ready_next(at) {
+                return Some(at);
+            }
+        }
+        None
+    }
+
+    /// The pid of the process that a turn would pick if a timer interrupt came now; `None`: none would be ready.
+    pub fn pending_turn(&self) -> Option<u32>
+        ensures { result ≡ picked_pid (state_of (ticked self.now)) }
+    {
+        self.is_sound();
+        match self.turn_next() {
+            None => None,
+            Some(next) => Some(self.pid(next)),
+        }
     }
 
     /// The pid of the process that runs.

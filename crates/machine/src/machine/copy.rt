@@ -1,5 +1,7 @@
-//! A copy of a machine, which goes on by itself.
-ghost use Rattle.std.specs.Prelude.{◌≡◌, IfOk};
+//! Copies of a machine, which go on by themselves.
+ghost use Rattle.std.specs.Prelude.{◌≡◌, IfOk, IsTrue};
+ghost use Rattle.machine.specs.Copies.{IsAsLarge};
+ghost use Rattle.std.specs.Bool.{OnTrue, OnFalse};
 
 use super::Machine;
 use blockdev::Duplicate;
@@ -28,5 +30,26 @@ impl<D: Duplicate, T: Translate> Machine<D, T> {
             kernel: self.kernel.duplicate(alloc, translator)?,
             failed: self.failed,
         })
+    }
+
+    /// Becomes a copy of another machine, in the memory that it has: it asks the host for none, and what the other
+    /// holds of its disk is written to this disk. Its own translator stays, and is fenced. A machine that has halted or
+    /// failed is copied too, and any machine can become a copy.
+    ///
+    /// False, and nothing changed, exactly where the two have another number of frames or of inodes, or where their
+    /// devices can't have the same state, as disks of other sizes. After a failure of a device the numbers of inodes
+    /// are those of its image.
+    pub fn copy_from<U: Translate>(&mut self, source: &Machine<D, U>) -> bool
+        ensures copied { OnTrue result (self.new ≡ source.now) }
+        ensures same { OnFalse result (self.new ≡ self.old) }
+        ensures large { IsAsLarge source.now self.old → IsTrue result }
+        ensures frames { OnTrue result (self.old.state.frame_limit ≡ source.now.state.frame_limit) }
+        ensures disks { OnTrue result (self.old.identity ≡ source.now.identity) }
+    {
+        if !self.kernel.copy_from(&source.kernel) {
+            return false;
+        }
+        self.failed = source.failed;
+        true
     }
 }

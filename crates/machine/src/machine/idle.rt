@@ -1,6 +1,8 @@
 //! Who runs, and whether a machine has anything to do.
 ghost use Rattle.std.specs.Prelude.{◌≡◌};
-ghost use Rattle.kernel.specs.Idle.{is_anyone_asleep, is_idle, running_pid};
+ghost use Rattle.kernel.specs.Idle.{is_anyone_asleep, is_idle, picked_pid, running_pid};
+ghost use Rattle.unixmodel.specs.Next.{next};
+ghost use Rattle.unixmodel.specs.declared.event.Event.TheVariants.{Tick};
 
 use crate::machine::Machine;
 use blockdev::BlockDev;
@@ -12,6 +14,14 @@ impl<D: BlockDev, T: Translate> Machine<D, T> {
         ensures { result ≡ running_pid self.now.state }
     {
         self.kernel.running()
+    }
+
+    /// The pid of the process that a turn would pick if a timer interrupt came now; `None` where none would be ready.
+    pub fn pending_turn(&self) -> Option<u32>
+        ensures { result ≡ picked_pid (next self.now.state Tick).state }
+    {
+        self.kernel.is_sound();
+        self.kernel.pending_turn()
     }
 
     /// Whether no process runs and none is ready, so that a step changes nothing.

@@ -6,10 +6,11 @@ ghost use Rattle.kernel.specs.Shows.{descriptors_on};
 ghost use Rattle.machine.specs.Holdings.{IsOfKind, file_told, holdings_of};
 ghost use Rattle.machine.specs.Looks.{LookGives};
 ghost use Rattle.proc.specs.Next.{IsNextOf};
+ghost use Rattle.schedules.specs.Alike.{timeless};
 ghost use Rattle.unixmodel.specs.Files.{slot};
 ghost use Rattle.unixmodel.specs.Shown.{shown_process};
 
-use crate::digest::digest_kernel;
+use crate::digest::{digest_kernel, digest_timeless};
 use crate::holdings::{Holdings, Opened, described, held};
 use crate::machine::Machine;
 use blockdev::BlockDev;
@@ -80,5 +81,18 @@ impl<D: BlockDev, T: Translate> Machine<D, T> {
         let digest = digest_kernel(&mut self.kernel);
         self.failed = digest.is_err();
         Ok(digest?)
+    }
+
+    /// The same without the count of ticks: machines whose states are alike, equal except that their clocks differ and
+    /// each sleeping process has slept as long, have equal ones.
+    pub fn digest_but_ticks(&mut self) -> Result<u64, Halt>
+        ensures { LookGives self.old self.new (λ digest. digest ≡ digest_of (timeless self.old.state)) result }
+    {
+        if self.failed {
+            return Err(Halt::Halted);
+        }
+        let timeless = digest_timeless(&mut self.kernel);
+        self.failed = timeless.is_err();
+        Ok(timeless?)
     }
 }

@@ -1,4 +1,4 @@
-use Rattle.digests.proofs.Common.{arith, files_mixed, lost-reads, lost-then}
+use Rattle.digests.proofs.Common.{arith, files_mixed, lost-reads, lost-then, ◌∙◌, ◌≡◌}
 use Rattle.digests.proofs.Steps.{all-done, begun, node-next}
 use Rattle.digests.proofs.nodes.mix_files.Goals as goal
 
@@ -16,4 +16,5 @@ loop-number-preserved g c = node-next c.loop-number.number c.args.digest c.loop-
 pub returns : goal.returns
 unfolding files_mixed
 returns g c = all-done _ _ _ _ c.loop-number.invariant
-    (omega (arith, c.loop-number-test.false, c.loop-number.auto.number-end))
+    (let all : c.loop-number.number ≡ c.numbers-numbers.result =
+    omega (arith, c.loop-number-test.false, c.loop-number.auto.number-end) in all ∙ c.numbers-numbers.ensures)

@@ -1,0 +1,21 @@
+use Rattle.spaces.proofs.Spaces.kept_page.Goals as goal
+use Rattle.spaces.proofs.Places.{held-is, stands-there}
+use Rattle.spaces.proofs.Common.{sym, mapped_as, mapping_of, mapped-page, unmapped-page}
+
+pub space_at-space-requires : goal.space_at-space-requires
+space_at-space-requires g c = stands-there c.self.inside c.args.at (rw (← c.self.view_is) at c.requires)
+
+pub find_page-requires : goal.find_page-requires
+find_page-requires g c =
+    (c.self.invariant.machine.each c.args.at c.space_at-space.result.now c.space_at-space.ensures).dense
+
+pub returns-in_err-frame : goal.returns-in_err-frame
+returns-in_err-frame g c =
+    rw (← c.self.view_is, held-is c.self.inside _ c.space_at-space.ensures, c.from_residual.ensures)
+    (sym (unmapped-page c.self.inside.ram (mapping_of c.self.inside.ram c.space_at-space.result.now) c.args.n
+    c.in_err-frame.ensures.found))
+
+pub returns : goal.returns
+returns g c = rw (← c.self.view_is, held-is c.self.inside _ c.space_at-space.ensures, c.frame.ensures)
+    (sym (mapped-page c.self.inside.ram (mapping_of c.self.inside.ram c.space_at-space.result.now) c.args.n
+    (mapped_as c.in_ok-frame.frame.0 c.in_ok-frame.marks) c.in_ok-frame.ensures.found))
