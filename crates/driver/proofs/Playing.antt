@@ -222,8 +222,8 @@ module _ {S : Type 0} {wants : S → Walked → Spot → S → Result (Unit {0})
       goes = λ events later t w last r given leads comes.
           begins last r (events ++ later)
           (subst (λ (k : ℕ). Plays k acts p s (unreached last) r (events ++ later)) (sym more)
-          (line-goes m acts p act s (unreached last) t events later w r is (given-line act.deed s t events w given) leads
-          (on w t last r later comes)));
+          (line-goes m acts p act s (unreached last) t events later w r is (given-line act.deed s t events w given)
+          leads (on w t last r later comes)));
       halts = λ events why begun.
           begins new (Err why) events
           (subst (λ (k : ℕ). Plays k acts p s (unreached new) (Err why) events) (sym more)

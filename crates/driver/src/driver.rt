@@ -133,8 +133,9 @@ impl<D: BlockDev, T: Translate, R: Record, V: Watch, W: Write> Driver<D, T, R, V
         }
     }
 
-    // Writes out the console's bytes where a batch begins of an event that comes `times` times, and came `made` times so
-    // far, if more than a batch would have come since that was last done. Returns how many may come up to the next.
+    // Writes out the console's bytes where a batch begins of an event that comes `times` times, and came `made` times
+    // up to now, if more than a batch would have come since that was last done. Returns how many may come before the
+    // next.
     fn write_out(&mut self, event: Event, made: u32, times: u32) -> u32
         ensures machine { self.new.machine ≡ self.old.machine }
         ensures keeper { self.new.keeper ≡ self.old.keeper }
