@@ -1,3 +1,4 @@
 pub mod Accesses
 pub mod Looks
+pub mod Passing
 pub mod Stops

@@ -1,6 +1,7 @@
 //! Why a motion ends.
-ghost use Rattle.std.specs.Prelude.{◌≡◌, [], IfSome, is_some};
+ghost use Rattle.std.specs.Prelude.{◌≡◌, ◌%◌, [], IfSome, is_some, slice_get, true};
 ghost use Rattle.std.specs.List.{list_any};
+ghost use Rattle.gdbstate.specs.Passing.{IsBare, IsPageOf, PassesWhoRuns, has_near, is_near, is_same_pid, stops_within};
 ghost use Rattle.gdbstate.specs.Stops.{at_call, break_at, byte_changed, changed, has_access, has_break, is_ecall};
 ghost use Rattle.gdbstate.specs.Stops.{is_stepped, same_byte, stops, stops_at, stops_who_runs};
 ghost use Rattle.hart.specs.Stops.{is_stop};
@@ -90,11 +91,48 @@ fn is_same(one: Option<u8>, other: Option<u8>) -> bool
     }
 }
 
+// Whether a process runs, and has this pid.
+fn is_same_pid(running: Option<u32>, pid: u32) -> bool
+    ensures { result ≡ is_same_pid running pid }
+{
+    match running {
+        Some(running) => running == pid,
+        None => false,
+    }
+}
+
 // Whether a watched byte is another than it was.
 fn has_changed(machine: &Debuggee, one: &Watched) -> bool
     ensures { result ≡ byte_changed machine.now.state one.now }
 {
     !is_same(byte_at(machine, one.pid, one.address), one.value)
+}
+
+// The byte of a page at an address in it.
+fn byte_in(page: &[u8], address: u64) -> Option<u8>
+    ensures { result ≡ slice_get page.now (address % 4096) }
+{
+    page.get((address % 4096) as usize).copied()
+}
+
+// Whether a watched byte is another than it was, where `page` is that of another.
+fn has_changed_on(machine: &Debuggee, other: &Watched, page: &[u8], one: &Watched) -> bool
+    requires { IsPageOf machine.now.state other.now.pid other.now.address page.now }
+    ensures { result ≡ byte_changed machine.now.state one.now }
+{
+    if one.pid == other.pid && one.address / 4096 == other.address / 4096 {
+        let byte = byte_in(page, one.address);
+        !is_same(byte, one.value)
+    } else {
+        has_changed(machine, one)
+    }
+}
+
+// Whether a watched byte is of a process, or another than it was.
+fn is_near(machine: &Debuggee, running: Option<u32>, one: &Watched) -> bool
+    ensures { result ≡ is_near machine.now.state running one.now }
+{
+    is_same_pid(running, one.pid) || has_changed(machine, one)
 }
 
 /// Whether a word is that of the instruction that calls.
@@ -129,13 +167,37 @@ impl Reasons {
         is_one_of(&self.addresses, address) && self.has_one(pid, address)
     }
 
-    // Whether a watched byte is another than it was.
-    fn has_changed(&self, machine: &Debuggee) -> bool
+    // Whether a watched byte is another than it was, where `page` is that of one of them.
+    fn has_changed_by(&self, machine: &Debuggee, one: &Watched, page: &[u8]) -> bool
+        requires { IsPageOf machine.now.state one.now.pid one.now.address page.now }
         ensures { result ≡ changed self.now machine.now.state }
     {
         self.watched
             .iter()
-            .any(|one| byte_at(machine, one.pid, one.address) != one.value)
+            .any(|other| has_changed_on(machine, one, page, other))
+    }
+
+    // Whether a watched byte is another than it was. The page of the first is looked for once.
+    fn has_changed(&self, machine: &Debuggee) -> bool
+        ensures { result ≡ changed self.now machine.now.state }
+    {
+        let [first, ..] = self.watched.as_slice() else {
+            return false;
+        };
+        match machine.peek(first.pid, first.address / 4096) {
+            Some((page, _)) => self.has_changed_by(machine, first, page),
+            None => self.watched.iter().any(|one| has_changed(machine, one)),
+        }
+    }
+
+    // Whether a watched byte is of the process that runs, or another than it was.
+    fn has_near(&self, machine: &Debuggee) -> bool
+        ensures { result ≡ has_near self.now machine.now.state }
+    {
+        let running = machine.running();
+        self.watched
+            .iter()
+            .any(|one| is_near(machine, running, one))
     }
 
     // Whether the next instruction of a process loads or stores bytes that are watched.
@@ -155,6 +217,38 @@ impl Reasons {
         match self.accesses.as_slice() {
             [] => Some(&self.addresses),
             _ => None,
+        }
+    }
+
+    // Whether a motion ends where this process runs, if its next instruction is done.
+    fn stops_within(&self, machine: &Debuggee, seen: &Seen) -> bool
+        ensures { result ≡ stops_within self.now machine.now.state seen.now }
+    {
+        self.has_break(seen.pid, seen.pc)
+            || is_stepped(self.stepping, seen.pid, seen.pc)
+            || self.has_access(machine, seen.pid)
+    }
+
+    // Whether no address, no step and no load or store ends a motion.
+    fn is_bare(&self) -> bool
+        ensures { result ≡ true → IsBare self.now }
+    {
+        self.addresses.is_empty() && self.stepping.is_none() && self.accesses.is_empty()
+    }
+
+    // Whether a motion surely goes by where the process that runs is, if its next instruction is done.
+    fn passes_who_runs(&self, machine: &Debuggee) -> bool
+        ensures { result ≡ true → PassesWhoRuns self.now machine.now.state }
+    {
+        if self.is_bare() {
+            return true;
+        }
+        let Some(pid) = machine.running() else {
+            return false;
+        };
+        match machine.inspect(pid) {
+            Some(seen) => !self.stops_within(machine, &seen),
+            None => false,
         }
     }
 
@@ -191,14 +285,18 @@ impl Wanted for Reasons {
         self.has_changed(machine) || self.stops_who_runs(machine)
     }
 
-    fn addresses(&self) -> Option<&[u64]> {
+    fn addresses(&self, machine: &Debuggee) -> Option<&[u64]> {
         if self.stepping.is_some() {
             return None;
         }
-        match self.watched.as_slice() {
-            [] => self.places(),
-            _ => None,
+        if self.has_near(machine) {
+            return None;
         }
+        self.places()
+    }
+
+    fn passes(&self, machine: &Debuggee) -> bool {
+        !self.has_changed(machine) && self.passes_who_runs(machine)
     }
 }
 
@@ -213,7 +311,11 @@ impl Wanted for Someone {
         machine.running().is_some()
     }
 
-    fn addresses(&self) -> Option<&[u64]> {
+    fn addresses(&self, _machine: &Debuggee) -> Option<&[u64]> {
         None
+    }
+
+    fn passes(&self, _machine: &Debuggee) -> bool {
+        false
     }
 }

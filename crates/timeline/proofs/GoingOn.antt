@@ -1,20 +1,21 @@
 -- How the states along a line follow one another.
-use Rattle.std.proofs.Common.{ap, append_assoc, arith, drop, Err, false, inl, inr, length, List}
+use Rattle.std.proofs.Common.{ap, append_assoc, arith, below_more, drop, Err, false, inl, inr, length, List}
 use Rattle.std.proofs.Common.{None, Ok, Option, refl, replicate, Result, Some, subst, sym, take, take-append-drop}
 use Rattle.std.proofs.Common.{true, ℕ, ℤ, ◌+◌, ◌++◌, ◌-◌, ◌<◌, ◌∙◌, ◌≡◌, ◌≤◌}
 use Rattle.std.proofs.Math.Seq.{take-append-add}
 use Rattle.std.proofs.lemmas.List.{drop-drop, drop_at, length-replicate, length-take-le, replicate-append-replicate}
 use Rattle.std.proofs.lemmas.List.{take-append-le, take-replicate}
 use Rattle.calls.proofs.Pieces.{run-append, then_runs}
-use Rattle.calls.specs.Computing.{Computes, after_steps}
+use Rattle.calls.specs.Computing.{Computes, after_steps, computes}
 use Rattle.calls.specs.declared.halt.Halt.{Halt}
 use Rattle.calls.specs.declared.halt.Halt.TheVariants.{Console, Device, Halted, InitEnded}
 use Rattle.machine.specs.Gives.{RunGives}
 use Rattle.machine.specs.View.{IsUp, View}
 use Rattle.std.specs.Prelude.{Bool, is_ok, is_some, not, ◌⊎◌}
 use Rattle.stretches.specs.Stretches.{IsAhead}
+use Rattle.timeline.proofs.Beside.{beside_steps, none-yet}
 use Rattle.timeline.specs.Inside.{IsAt}
-use Rattle.timeline.specs.Line.{Line, Passes, StopsOnlyAt, go_on, go_on_from, state_at}
+use Rattle.timeline.specs.Line.{IsStride, Line, Passes, StopsOnlyAt, go_on, go_on_from, state_at}
 use Rattle.unixmodel.specs.Calls.{After}
 use Rattle.unixmodel.specs.declared.event.Event.{Event}
 use Rattle.unixmodel.specs.declared.event.Event.TheVariants.{Step}
@@ -104,6 +105,63 @@ ahead-less events at k times e ahead some few =
       next = all ∙ ap (λ es. replicate k e ++ es) (sym after);
     }
 
+-- one of the events ahead, after k others
+pub ahead-at : (events : List Event) (at k times : ℕ) (e : Event) → IsAhead events at (e, times) → k < times
+    → IsAhead events (at + k) (e, 1)
+ahead-at events at k times e ahead less =
+    let rest : List Event = drop (at + times) events in
+    let more : times ≡ k + (1 + (times - (k + 1))) = omega (arith, less) in
+    let parts : replicate times e ≡ replicate k e ++ replicate (1 + (times - (k + 1))) e =
+    ap (λ n. replicate n e) more ∙ sym (replicate-append-replicate k (1 + (times - (k + 1))) e) in
+    let all : drop at events ≡ replicate k e ++ (replicate (1 + (times - (k + 1))) e ++ rest) =
+    ahead.next ∙ ap (λ es. es ++ rest) parts
+    ∙ append_assoc (replicate k e) (replicate (1 + (times - (k + 1))) e) rest in
+    let after : drop (at + k) events ≡ replicate (1 + (times - (k + 1))) e ++ rest =
+    sym (drop-drop k at events) ∙ ap (drop k) all
+    ∙ drop_at (replicate k e) (replicate (1 + (times - (k + 1))) e ++ rest) k (length-replicate k e) in
+    let end : at + times ≡ (at + k) + (1 + (times - (k + 1))) = omega (arith, less) in
+    ahead-less events (at + k) 1 (1 + (times - (k + 1))) e
+    (record {
+      some = omega arith;
+      within = let w = ahead.within in omega (arith, w, less);
+      next = after ∙ ap (λ n. replicate (1 + (times - (k + 1))) e ++ drop n events) end;
+    }) (omega arith) (omega arith)
+
+-- what is so of all times after one, so far, and of this one
+pub one-more : (P : ℕ → Type 0) (from at : ℕ) → ((n : ℕ) → from < n → n < at → P n) → (from < at → P at)
+    → (n : ℕ) → from < n → n < at + 1 → P n
+one-more P from at so here n past before =
+    below_more (λ k. from < k → P k) at (λ k less later. so k later less) here n before past
+
+-- ---- instruction by instruction: after k of them
+
+pub crept : {old l new : Line} {times k : ℕ} (stops : State → Bool) → l ≡ record old { at = l.at }
+    → l.at ≡ old.at + k → k ≤ times
+    → ((n : ℕ) → old.at < n → n < l.at → Passes stops (state_at old.start old.events n)) → new ≡ l
+    → IsStride stops old new times
+crept {old} {l} {new} {times} {k} stops same at few so still =
+    subst (λ (x : Line). IsStride stops old x times) (sym still)
+    (record { same = same; later = omega (arith, at); within = omega (arith, at, few); between = so })
+
+-- one more is done
+pub crept-on : {old l new : Line} {times k : ℕ} (stops : State → Bool) → l ≡ record old { at = l.at }
+    → l.at ≡ old.at + k → k < times
+    → ((n : ℕ) → old.at < n → n < l.at → Passes stops (state_at old.start old.events n))
+    → (old.at < l.at → computes (state_at old.start old.events l.at) ≡ true
+    → Passes stops (state_at old.start old.events l.at))
+    → new ≡ record l { at = l.at + 1 } → computes (state_at l.start l.events l.at) ≡ true
+    → IsStride stops old new times
+crept-on {old} {l} {new} {times} {k} stops same at less so here on done =
+    let now : new ≡ record old { at = l.at + 1 } = on ∙ ap (λ (x : Line). record x { at = l.at + 1 }) same in
+    subst (λ (x : Line). IsStride stops old x times) (sym now)
+    (record {
+      same = refl;
+      later = omega (arith, at);
+      within = omega (arith, at, less);
+      between = one-more (λ n. Passes stops (state_at old.start old.events n)) old.at l.at so
+          (λ past. here past (subst (λ (x : Line). computes (state_at x.start x.events l.at) ≡ true) same done));
+    })
+
 -- a line that did not move
 pub stayed : {old new : Line} {e : Event} {times : ℕ} → new ≡ record old { at = new.at } → old.at ≤ new.at
     → new.at ≤ old.at → IsAhead old.events old.at (e, times) → IsAhead new.events new.at (e, times)
@@ -173,7 +231,7 @@ module _ (start : State) (events : List Event) (goes : start.halted ≡ None) wh
 
   -- none strictly between has a reason to stop
   pub none-between : {m : View} (n : State) (stops : State → Bool) (at count times most : ℕ) (addresses : List ℕ)
-      → StopsOnlyAt stops addresses → IsAt start events at m → IsUp m
+      → StopsOnlyAt stops m.state addresses → IsAt start events at m → IsUp m
       → IsAhead events at (Step, times) → most ≤ times → Computes m.state n addresses most count
       → (j : ℕ) → at < j → j < at + count → Passes stops (state_at start events j)
   none-between {m} n stops at count times most addresses only h up ahead few c j past before =
@@ -184,7 +242,9 @@ module _ (start : State) (events : List Event) (goes : start.halted ≡ None) wh
       ∙ after-some at (j - at) count times most addresses h up.goes ahead (omega (arith, inside, few))
       (omega (arith, past, before)) in
       subst (Passes stops) (sym is)
-      (only (after_steps m.state (j - at)) (c.computing (j - at) (omega (arith, past, before)))
+      (only (after_steps m.state (j - at))
+      (beside_steps (j - at) m.state up.goes (λ k less. c.computing k (omega (arith, less, past, before))))
+      (c.computing (j - at) (omega (arith, past, before)))
       (c.none_between (j - at) (omega (arith, past)) (omega (arith, past, before))))
 
   -- instructions that are computed, if any are
@@ -192,20 +252,24 @@ module _ (start : State) (events : List Event) (goes : start.halted ≡ None) wh
     pub here : IsAt start events (at + count) n
     pub within : count ≤ times
     pub between : (j : ℕ) → at < j → j < at + count → Passes stops (state_at start events j)
+    pub computes : 0 < count → computes (state_at start events at) ≡ true
 
   pub strode : {m n : View} (stops : State → Bool) (at count times : ℕ) (addresses : List ℕ)
-      → StopsOnlyAt stops addresses → IsAt start events at m
+      → StopsOnlyAt stops (state_at start events at) addresses → IsAt start events at m
       → IsAhead events at (Step, times) → (IsUp m → Computes m.state n.state addresses times count)
       → ((IsUp m → ⊥) → (count ≡ 0) × (n ≡ m))
       → n ≡ record m { state = n.state } → Strode stops at count times n
-  strode {m} {n} stops at count times addresses only h ahead computes stopped same = elim (up-or m h.sound) [
+  strode {m} {n} stops at count times addresses only h ahead computed stopped same = elim (up-or m h.sound) [
     | inl up ↦
-        let c = computes up in
+        let c = computed up in
         record {
           here = computed-on at count times times addresses h up ahead (omega arith)
               (ap (λ (v : View). v.failed) same) c;
           within = c.within;
-          between = none-between n.state stops at count times times addresses only h up ahead (omega arith) c;
+          between = none-between n.state stops at count times times addresses
+              (subst (λ (s : State). StopsOnlyAt stops s addresses) (sym h.state) only) h up ahead (omega arith) c;
+          computes = λ some. subst (λ (s : State). computes s ≡ true) (none-yet m.state ∙ h.state)
+              (c.computing 0 some);
         }
     | inr not ↦
         let e = stopped not in
@@ -216,5 +280,17 @@ module _ (start : State) (events : List Event) (goes : start.halted ≡ None) wh
               (subst (λ k. IsAt start events k m) still h);
           within = omega (arith, none);
           between = λ j past before. absurd (omega (arith, none, past, before));
+          computes = λ some. absurd (omega (arith, none, some));
         }
   ]
+
+  -- the one instruction that was to be computed, if it was
+  pub strode-one : {n : View} (stops : State → Bool) (at count : ℕ) → Strode stops at count 1 n → (count ≡ 0 → ⊥)
+      → IsAt start events (at + 1) n
+  strode-one {n} stops at count s some =
+      let few = s.within in subst (λ k. IsAt start events (at + k) n) (omega (arith, few, some)) s.here
+
+  pub strode-none : {n : View} (stops : State → Bool) (at count : ℕ) → Strode stops at count 1 n → count ≡ 0
+      → IsAt start events at n
+  strode-none {n} stops at count s none =
+      subst (λ k. IsAt start events k n) (omega (arith, none)) s.here

@@ -1,6 +1,6 @@
 -- The line of times of a machine: at time n it is what the first n events make of its start.
 use Rattle.std.specs.Prelude.{Bool, IfSome, List, None, Option, Some, false, is_some, length, max, take, true, ℕ, ℤ}
-use Rattle.std.specs.Prelude.{◌+◌, ◌<◌, ◌≡◌, ◌≤◌, ◌⊎◌}
+use Rattle.std.specs.Prelude.{◌+◌, ◌<◌, ◌≡◌, ◌≢◌, ◌≤◌, ◌⊎◌}
 use Rattle.calls.specs.Computing.{computes, is_at}
 use Rattle.kernel.specs.Idle.{running_pid, running_process}
 use Rattle.timeline.specs.declared.moving.Moved.{Moved}
@@ -36,9 +36,16 @@ IsShown s = IfSome (running_pid s) (λ pid. shown_process s pid ≡ running_proc
 abbrev pub Passes : (State → Bool) → State → Type 0
 Passes stops s = IsShown s → stops s ≡ false
 
--- there is none where a process runs whose next instruction is done, unless its pc is at one of these addresses
-abbrev pub StopsOnlyAt : (State → Bool) → List ℕ → Type 0
-StopsOnlyAt stops addresses = (s : State) → computes s ≡ true → is_at addresses s ≡ false → Passes stops s
+-- the same process runs, and all others are as they were
+pub record IsBeside (from s : State) : Type 0 where
+  pub runs : running_pid s ≡ running_pid from
+  pub others : (pid : ℕ) → running_pid from ≢ Some pid → shown_process s pid ≡ shown_process from pid
+
+-- there is none where the process that runs from a state on does its next instruction, unless its pc is at one of these
+-- addresses
+abbrev pub StopsOnlyAt : (State → Bool) → State → List ℕ → Type 0
+StopsOnlyAt stops from addresses =
+    (s : State) → IsBeside from s → computes s ≡ true → is_at addresses s ≡ false → Passes stops s
 
 -- ---- motions
 

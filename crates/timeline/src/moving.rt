@@ -1,6 +1,7 @@
 //! Motions of a machine to where there is a reason to stop.
 ghost use Rattle.std.specs.Prelude.{◌≡◌, ◌+◌, ◌<◌, ◌≤◌, IfNone, IfOk, IfSome, false, is_some, length, true};
-ghost use Rattle.timeline.specs.Line.{HitIn, IsEnd, IsFirst, IsLast, IsStride, state_at};
+ghost use Rattle.calls.specs.Computing.{computes};
+ghost use Rattle.timeline.specs.Line.{HitIn, IsEnd, IsFirst, IsLast, IsStride, Passes, StopsOnlyAt, state_at};
 ghost use Rattle.stretches.specs.Stretches.{IsAhead};
 ghost use Rattle.unixmodel.specs.declared.event.Event.TheVariants.{Step};
 
@@ -44,14 +45,65 @@ impl Timeline {
         wanted.is_met(self.machine())
     }
 
+    // The next instruction of the process that runs, if it is done.
+    fn compute_one(&mut self) -> bool
+        requires { IsAhead self.old.events self.old.at (Step, 1) }
+        ensures done { result ≡ true → self.new ≡ record self.old { at = self.old.at + 1 } }
+        ensures computes { result ≡ true → computes (state_at self.old.start self.old.events self.old.at) ≡ true }
+        ensures same { result ≡ false → self.new ≡ self.old }
+    {
+        let _total = self.events.count();
+        if self.machine.compute(1, &[]) == 0 {
+            return false;
+        }
+        self.at += 1;
+        true
+    }
+
+    // Whether there surely is no reason to stop here, if the next instruction is done.
+    fn passes<W: Wanted>(&self, wanted: &W) -> bool
+        ensures { result ≡ true → computes (state_at self.now.start self.now.events self.now.at) ≡ true →
+            Passes (W.stops wanted.now) (state_at self.now.start self.now.events self.now.at) }
+    {
+        wanted.passes(self.machine())
+    }
+
+    // Does instructions of an event that comes n times from here on, one by one, up to where there may be a reason to
+    // stop.
+    fn creep<W: Wanted>(&mut self, times: u32, wanted: &W)
+        requires { IsAhead self.old.events self.old.at (Step, times) }
+        ensures { IsStride (W.stops wanted.now) self.old self.new times }
+    {
+        for _instruction in 0..times {
+            if !self.compute_one() {
+                return;
+            }
+            if !self.passes(wanted) {
+                return;
+            }
+        }
+    }
+
+    // Does instructions of an event that comes n times from here on, up to where the process that runs is at one of
+    // some addresses.
+    fn run_to<W: Wanted>(&mut self, times: u32, wanted: &W, addresses: &[u64])
+        requires ahead { IsAhead self.old.events self.old.at (Step, times) }
+        requires only { StopsOnlyAt (W.stops wanted.now) (state_at self.old.start self.old.events self.old.at)
+            addresses.now }
+        ensures { IsStride (W.stops wanted.now) self.old self.new times }
+    {
+        let _total = self.events.count();
+        self.at += u64::from(self.machine.compute(times, addresses));
+    }
+
     // Does instructions of an event that comes n times from here on, up to where there may be a reason to stop.
     fn compute<W: Wanted>(&mut self, times: u32, wanted: &W)
         requires { IsAhead self.old.events self.old.at (Step, times) }
         ensures { IsStride (W.stops wanted.now) self.old self.new times }
     {
-        let _total = self.events.count();
-        if let Some(addresses) = wanted.addresses() {
-            self.at += u64::from(self.machine.compute(times, addresses));
+        match wanted.addresses(self.machine()) {
+            Some(addresses) => self.run_to(times, wanted, addresses),
+            None => self.creep(times, wanted),
         }
     }
 

@@ -21,8 +21,12 @@ impl Wanted for Anywhere {
         self.stops
     }
 
-    fn addresses(&self) -> Option<&[u64]> {
+    fn addresses(&self, _machine: &Debuggee) -> Option<&[u64]> {
         None
+    }
+
+    fn passes(&self, _machine: &Debuggee) -> bool {
+        !self.stops
     }
 }
 

@@ -1,6 +1,7 @@
 //! What a motion looks for.
-ghost use Rattle.std.specs.Prelude.{◌≡◌, Bool, IfSome};
-ghost use Rattle.timeline.specs.Line.{StopsOnlyAt};
+ghost use Rattle.std.specs.Prelude.{◌≡◌, Bool, IfSome, true};
+ghost use Rattle.calls.specs.Computing.{computes};
+ghost use Rattle.timeline.specs.Line.{Passes, StopsOnlyAt};
 ghost use Rattle.unixmodel.specs.State.{State};
 
 use blockdev::MemDisk;
@@ -19,8 +20,12 @@ pub trait Wanted {
     fn is_met(&self, machine: &Debuggee) -> bool
         ensures { result ≡ stops self.now machine.now.state };
 
-    /// The only addresses at which a process that goes on by instructions may stop.
-    /// `None` where each state has to be looked at.
-    fn addresses(&self) -> Option<&[u64]>
-        ensures { IfSome result (λ addresses. StopsOnlyAt (stops self.now) addresses.now) };
+    /// The only addresses at which the process that runs may stop, as long as it goes on by instructions from where the
+    /// machine is. `None` where each state has to be looked at.
+    fn addresses(&self, machine: &Debuggee) -> Option<&[u64]>
+        ensures { IfSome result (λ addresses. StopsOnlyAt (stops self.now) machine.now.state addresses.now) };
+
+    /// Whether a machine surely does not stop where it is, if the next instruction is done.
+    fn passes(&self, machine: &Debuggee) -> bool
+        ensures { result ≡ true → computes machine.now.state ≡ true → Passes (stops self.now) machine.now.state };
 }
