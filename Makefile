@@ -267,11 +267,13 @@ gdb: $(if $(RUN),,user-c) | program
 	$(if $(RUN),,$(MAKE) -C user-c ../$(IMAGE_C) XV6=$(abspath $(PROGRAM)) && $(MAKE) -C user-c $(notdir $(patsubst %.c,%.elf,$(wildcard user-c/*.c))))
 	tools/gdb.sh $(PROGRAM) $(or $(RUN),$(IMAGE_C)) '$(or $(SYMBOLS),$(if $(RUN),,out/user-c))' $(SCRIPT)
 
-# Debugs small programs in C by scripts of gdb and lldb, and compares what they print; then 200 random runs, and times from both sides.
+# Debugs small programs in C by scripts of gdb and lldb, and compares what they print; then 200 random runs, times from all sides, and hostile packets.
 # It needs Debian's packages gdb-multiarch and gcc-riscv64-unknown-elf; what is for lldb is left out where there is none.
 check-gdb: | program
 	trials/gdb/check.py $(PROGRAM)
 	trials/gdb/agree.py $(PROGRAM)
+	trials/gdb/times.py $(PROGRAM)
+	trials/gdb/hostile.py $(PROGRAM)
 
 # Compiles them by gcc and clang, and tries them beside the programs in assembly.
 # selftest passes at each pace of a clock, and the file that the gate runs is what the compiler gives. It needs Debian's packages

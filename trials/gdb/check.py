@@ -38,6 +38,8 @@ class Trial:
 TRIALS = [
     Trial("store", ("ring",)),
     Trial("line", ("ring",)),
+    Trial("output", ("ring",)),
+    Trial("accesses", ("ring",)),
     Trial("fork", ("ring",)),
     Trial("exec", ("starts", "sum")),
     Trial("fault", ("fault",)),

@@ -18,9 +18,8 @@ STEPS = 36_060_000
 # The time at which the child is in its loop, and the parent waits.
 IN_LOOP = 1000
 
-# How many steps of the loop are measured, and where something is watched.
+# How many steps of the loop are measured.
 LOOP = 36_000_000
-FEWER = 1_000_000
 
 TURNS = 3
 MEGABYTES = 64
@@ -100,16 +99,16 @@ def main():
         watched = f"Z2,{at['cells'] + 8:x},8"
         own, other = ["Hgp2.2", watched], ["Hgp1.1", watched]
         run = run_seconds(program, folder) / STEPS
-        print("A child's loop under `gdb`, 256 frames, an image of 2000 blocks: nanoseconds of the processor a step, and the ratio to\n`run`.")
-        print(f"Where something is watched it is {FEWER:,} steps, else 36 million:\n")
+        print("A child's loop of 36 million steps under `gdb`, 256 frames, an image of 2000 blocks: nanoseconds of the processor a step,")
+        print("and the ratio to `run`:\n")
         print("| what | nanoseconds a step | ratio |\n|---|---|---|")
         rows = [
             ("`run`", lambda: run),
             ("`continue`", lambda: forward_seconds(program, folder, [], LOOP) / LOOP),
             ("`continue`, 8 breakpoints in the loop's page", lambda: forward_seconds(program, folder, breaks, LOOP) / LOOP),
-            ("`continue`, a watch in another process", lambda: forward_seconds(program, folder, other, FEWER) / FEWER),
-            ("`continue`, a watch in the loop's process", lambda: forward_seconds(program, folder, own, FEWER) / FEWER),
-            ("`reverse-continue` to the write before the loop", lambda: back_seconds(program, folder, own, FEWER) / FEWER),
+            ("`continue`, a watch in another process", lambda: forward_seconds(program, folder, other, LOOP) / LOOP),
+            ("`continue`, a watch in the loop's process", lambda: forward_seconds(program, folder, own, LOOP) / LOOP),
+            ("`reverse-continue` to the write before the loop", lambda: back_seconds(program, folder, own, LOOP) / LOOP),
         ]
         for words, measure in rows:
             took = measure()
