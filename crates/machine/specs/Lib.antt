@@ -9,3 +9,4 @@ pub mod Booted
 pub mod Holdings
 pub mod Pieces
 pub mod Copies
+pub mod Matching

@@ -15,6 +15,7 @@ ghost use Rattle.vm.specs.Leaf.{page_from};
 mod copy;
 mod idle;
 mod looks;
+mod matching;
 mod save;
 mod steps;
 

@@ -43,7 +43,7 @@ pub(crate) const PRINTED: &[u8] = b"abc\nabc\n";
 
 // As the events go: while nothing is shared yet; a line is typed in part; it is there; a pipe holds bytes; a process
 // sleeps; the directory is made; process 1 has ended.
-const PLACES: [usize; 9] = [0, 30, 62, 65, 90, 120, 161, 200, EVENTS];
+pub(crate) const PLACES: [usize; 9] = [0, 30, 62, 65, 90, 120, 161, 200, EVENTS];
 
 // An event by its number.
 fn event(number: usize) -> Event {
@@ -88,7 +88,7 @@ pub(crate) fn is_even<T: Translate, U: Translate>(
     one.free_frames() == other.free_frames() && one.is_idle() == other.is_idle()
 }
 
-fn go<T: Translate>(
+pub(crate) fn go<T: Translate>(
     machine: &mut Machine<MemDisk, T>,
     from: usize,
     to: usize,

@@ -13,11 +13,11 @@ returns-then-eq g c = then-active c.args.self.now c.is_sound.ensures.sound c.arg
 pub returns : goal.returns
 returns g c =
     let k = kernel_of c.self.inside in
+    let then = (k.ticks + 1) % 2 ^ 32 in
     let rests = not-active _ _ (ap (λ o. option_eq nat_eq o (Some c.args.at)) (sym c.active.ensures)
     ∙ sym c.if-eq.ensures) in
     c.is_ready.ensures
-    ∙ ap (λ (os : Processes). ready (seen (awaited_in (opens_of k.files) k.spaces.pipes k.console ((k.ticks + 1) % 2 ^ 32)) os)
-    c.args.at)
+    ∙ ap (λ (os : Processes). ready (seen (awaited_in (opens_of k.files) k.spaces.pipes k.console then) os) c.args.at)
     c.places.ensures.places
     ∙ then-rests k c.self.invariant.sound c.args.at
     (λ same. rests (ap (λ (x : Kernel). x.spaces.active) (sym c.self.view_is) ∙ same))
