@@ -99,8 +99,8 @@ def main():
         watched = f"Z2,{at['cells'] + 8:x},8"
         own, other = ["Hgp2.2", watched], ["Hgp1.1", watched]
         run = run_seconds(program, folder) / STEPS
-        print("A child's loop of 36 million steps under `gdb`, 256 frames, an image of 2000 blocks: nanoseconds of the processor a step,")
-        print("and the ratio to `run`:\n")
+        print("A child's loop of 36 million steps under `gdb`, 256 frames, an image of 2000 blocks: nanoseconds of the processor")
+        print("a step, and the ratio to `run`:\n")
         print("| what | nanoseconds a step | ratio |\n|---|---|---|")
         rows = [
             ("`run`", lambda: run),
