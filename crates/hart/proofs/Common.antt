@@ -42,7 +42,7 @@ pub use Rattle.hart.specs.Changes.{changed, IsAlone, IsSound, IsStore, put_in, S
 pub use Rattle.hart.specs.Follows.{Follows}
 pub use Rattle.hart.specs.Operations.{IsOp}
 unfoldable pub use Rattle.hart.specs.Operations.{op_by}
-pub use Rattle.hart.specs.Stops.{EndsAt, IsBehind, IsClear, IsFree, IsPast, is_stop, pc_at}
+pub use Rattle.hart.specs.Stops.{AreFree, EndsAt, IsBehind, IsClear, IsFree, IsPast, is_stop, pc_at}
 pub use Rattle.hart.specs.Runs.{Goes, GoesOn, Point, point_at, point_of, StaysWhole, word_in}
 unfoldable pub use Rattle.hart.specs.Runs.{Reaches, RunsTo}
 pub use Rattle.hart.specs.Sizes.{IsSize}

@@ -2,6 +2,7 @@
 use Rattle.std.specs.Prelude.{Bool, List, false, true, ℕ, ◌*◌, ◌<◌, ◌==◌, ◌≤◌, ◌≡◌, ◌⊎◌}
 use Rattle.std.specs.List.{list_any}
 use Rattle.unixmodel.specs.Numbers.{plus}
+use Rattle.hart.specs.declared.stops.Known.{Known}
 
 -- the address of word k of the page at `base`
 abbrev pub pc_at : ℕ → ℕ → ℕ
@@ -25,6 +26,13 @@ IsClear stops base from to = (j : ℕ) → from < j → j < to → is_stop stops
 -- no word of a page from one up to another is at a stop
 abbrev pub IsFree : List ℕ → ℕ → ℕ → ℕ → Type 0
 IsFree stops base from to = (j : ℕ) → from ≤ j → j < to → is_stop stops (pc_at base j) ≡ false
+
+-- no word of two stretches of a page is at a stop
+pub record AreFree (stops : List ℕ) (base : ℕ) (known : Known) : Type 0 where
+  pub here : IsFree stops base known.here.from known.here.to
+  pub before : IsFree stops base known.before.from known.before.to
+  pub within : known.here.to ≤ 1024
+  pub within_before : known.before.to ≤ 1024
 
 -- as many are done as were requested, or the next one is at a stop
 abbrev pub EndsAt : List ℕ → ℕ → ℕ → ℕ → Type 0

@@ -44,13 +44,38 @@ impl Page {
     }
 }
 
-// How many frames have their words decoded.
-const PAGES: usize = 64;
+// How many frames have their words decoded: sets of two.
+const SETS: usize = 32;
 
-/// Decoded words of as many frames as fit: each frame has the page of its number modulo 64, where a word is decoded
-/// anew if there is another one. In contracts it is nothing, as what it holds is not visible.
+// The pages of frames whose numbers are the same modulo 32.
+#[derive(Clone, Copy)]
+struct Set {
+    // the frame of each page
+    frames: [u32; 2],
+    // which page was used last
+    last: usize,
+    ghost within: { last < 2 },
+}
+
+impl Set {
+    // The page for a frame: the one that it has, or else the one that was not used last, which it then gets.
+    #[inline(always)]
+    fn choose(&mut self, frame: u32) -> usize
+        ensures { result < 2 }
+    {
+        if self.frames[self.last] != frame {
+            self.last = 1 - self.last;
+            self.frames[self.last] = frame;
+        }
+        self.last
+    }
+}
+
+/// Decoded words of as many frames as fit: each frame has one of the two pages of its number modulo 32, where a word is
+/// decoded anew if there is another one. In contracts it is nothing, as what it holds is not visible.
 #[derive(Drop)]
 pub struct Decoded {
+    sets: [Set; SETS],
     pages: Vec<Page>,
 }
 
@@ -67,20 +92,29 @@ impl Model for Decoded {
 impl Decoded {
     /// With nothing decoded. It takes 768 KiB of the host, and asks for no more later.
     pub fn new(alloc: Global) -> Result<Decoded, AllocError> {
-        let mut pages = Vec::with_capacity(alloc, PAGES)?;
-        for _ in 0..PAGES {
+        let mut pages = Vec::with_capacity(alloc, 2 * SETS)?;
+        for _ in 0..2 * SETS {
             // the word 0 is no instruction
             pages.push(Page {
                 words: [0; WORDS],
                 ops: [Op::Illegal; WORDS],
             })?;
         }
-        Ok(Decoded { pages })
+        let none = Set {
+            frames: [0; 2],
+            last: 0,
+        };
+        Ok(Decoded {
+            sets: [none; SETS],
+            pages,
+        })
     }
 
     /// The words of a frame, by its number.
     #[inline]
     pub fn page(&mut self, frame: u32) -> &mut Page {
-        &mut self.pages[(frame % 64) as usize]
+        let set = frame as usize % SETS;
+        let page = self.sets[set].choose(frame);
+        &mut self.pages[2 * set + page]
     }
 }

@@ -11,14 +11,14 @@ ghost use Rattle.sv39.specs.Mapping.{Mapped, frame_for};
 ghost use Rattle.hart.specs.Acts.{Acts, trap_of};
 ghost use Rattle.hart.specs.Answered.{word_by};
 ghost use Rattle.hart.specs.Runs.{GoesOn, MovesOn, StaysWhole, goes_to, point_at, point_of, word_in};
-ghost use Rattle.hart.specs.Stops.{EndsAt, IsBehind, IsClear, IsFree, is_stop, pc_at};
+ghost use Rattle.hart.specs.Stops.{AreFree, EndsAt, IsBehind, IsClear, is_stop, pc_at};
 
 use crate::access::locate;
 use crate::act::{Aligned, Next};
 use crate::decoded::{Decoded, Page};
 use crate::in_page::InPage;
 use crate::state::Hart;
-use crate::stops::{Stops, Stretch};
+use crate::stops::{Known, Stops, Stretch};
 use ram::{FrameNo, Ram};
 use sv39::Translate;
 use unixmodel::trap::{Access, Cause, Trap};
@@ -47,26 +47,20 @@ fn index_in(base: u64, to: Aligned) -> Option<usize>
     Some((offset / 4) as usize)
 }
 
-// The index of a word in the page at `base`, and a stretch without a stop in which it is, if it is in the page and at
-// no stop.
+// The index of a word in the page at `base`, and stretches without a stop, if it is in the page and at no stop: it is
+// in the first of them.
 #[inline(always)]
-fn goes_to_word<S: Stops>(
-    stops: &S,
-    base: u64,
-    to: Aligned,
-    known: Stretch,
-) -> Option<(usize, Stretch)>
+fn goes_to_word<S: Stops>(stops: &S, base: u64, to: Aligned, known: Known) -> Option<(usize, Known)>
     requires page { base % 4096 ≡ 0 }
-    requires known { IsFree (S.addresses stops.now) base known.from known.to }
-    requires within { known.to ≤ 1024 }
+    requires known { AreFree (S.addresses stops.now) base known }
     ensures at { IfSome result (λ r. (r.0 < 1024) × (pc_at base r.0 ≡ to)) }
     ensures past { IfSome result (λ r. is_stop (S.addresses stops.now) to ≡ false) }
-    ensures free { IfSome result (λ r. IsFree (S.addresses stops.now) base r.1.from r.1.to) }
-    ensures inside { IfSome result (λ r. (r.1.from ≤ r.0) × (r.0 < r.1.to) × (r.1.to ≤ 1024)) }
+    ensures free { IfSome result (λ r. AreFree (S.addresses stops.now) base r.1) }
+    ensures inside { IfSome result (λ r. (r.1.here.from ≤ r.0) × (r.0 < r.1.here.to)) }
 {
     let index = index_in(base, to)?;
-    let stretch = stops.free_at(base, index, known)?;
-    Some((index, stretch))
+    let free = stops.free_at(base, index, known)?;
+    Some((index, free))
 }
 
 impl Hart {
@@ -162,23 +156,26 @@ impl Hart {
     {
         let base = self.pc / 4096 * 4096;
         let mut k = (self.pc % 4096 / 4) as usize;
-        let mut free = Stretch {
-            from: k + 1,
-            to: stops.clear_to(base, k),
+        let mut free = Known {
+            here: Stretch {
+                from: k + 1,
+                to: stops.clear_to(base, k),
+            },
+            before: Stretch { from: 0, to: 0 },
         };
         // where the count ends, if no operation jumps
         let mut limit = k + count as usize;
         while k < limit {
-            let end = first_of(k, limit, free.to);
+            let end = first_of(k, limit, free.here.to);
             let (done, next) = self.straight::<T, S>(page, f, base, k, end, ram, trans);
             let left = limit - (k + done);
             match next {
                 Next::At(to) => {
-                    let Some((index, stretch)) = goes_to_word(stops, base, to, free) else {
+                    let Some((index, known)) = goes_to_word(stops, base, to, free) else {
                         self.pc = to.address();
                         return (left as u32, None);
                     };
-                    free = stretch;
+                    free = known;
                     k = index;
                     limit = k + left;
                 }

@@ -1,6 +1,6 @@
 //! Addresses at which a run of many instructions stops.
-ghost use Rattle.std.specs.Prelude.{ℕ, IfSome, List, is_some, not, ◌≡◌, ◌%◌, ◌<◌, ◌≤◌};
-ghost use Rattle.hart.specs.Stops.{IsClear, IsFree, is_stop, pc_at};
+ghost use Rattle.std.specs.Prelude.{ℕ, IfSome, IsTrue, List, is_some, not, ◌≡◌, ◌%◌, ◌<◌, ◌≤◌, ◌↔◌};
+ghost use Rattle.hart.specs.Stops.{AreFree, IsClear, is_stop, pc_at};
 
 /// Words of a page, from one up to another, which is not one of them.
 #[derive(Clone, Copy)]
@@ -9,6 +9,38 @@ pub struct Stretch {
     pub from: usize,
     /// The index after the last.
     pub to: usize,
+}
+
+impl Stretch {
+    // Whether a word is one of them.
+    #[inline(always)]
+    fn has_word(self, index: usize) -> bool
+        ensures { IsTrue result ↔ ((self.from ≤ index) × (index < self.to)) }
+    {
+        self.from <= index && index < self.to
+    }
+}
+
+/// Two stretches of a page without stops. A loop that jumps from one to the other and back asks for neither again.
+#[derive(Clone, Copy)]
+pub struct Known {
+    /// The one that the pc is in.
+    pub here: Stretch,
+    /// The one that it was in before.
+    pub before: Stretch,
+}
+
+impl Known {
+    // With another one that the pc is in.
+    #[inline(always)]
+    fn with(self, here: Stretch) -> Known
+        ensures { result ≡ record { here = here; before = self.here } }
+    {
+        Known {
+            here,
+            before: self.here,
+        }
+    }
 }
 
 /// Addresses at which a run stops. In contracts they are a list.
@@ -27,16 +59,15 @@ pub trait Stops {
         ensures within { (k < result) × (result ≤ 1024) }
         ensures clear { IsClear (addresses self.now) base k result };
 
-    /// A stretch of the page at `base` without any of them, in which word `index` is; none if this word is at one of
+    /// Stretches of the page at `base` without any of them, word `index` in the first; none if this word is at one of
     /// them. What is known of such words spares a search.
-    fn free_at(&self, base: u64, index: usize, known: Stretch) -> Option<Stretch>
+    fn free_at(&self, base: u64, index: usize, known: Known) -> Option<Known>
         requires place { index < 1024 }
         requires page { base % 4096 ≡ 0 }
-        requires known { IsFree (addresses self.now) base known.from known.to }
-        requires within { known.to ≤ 1024 }
+        requires known { AreFree (addresses self.now) base known }
         ensures some { is_some result ≡ not (is_stop (addresses self.now) (pc_at base index)) }
-        ensures free { IfSome result (λ s. IsFree (addresses self.now) base s.from s.to) }
-        ensures inside { IfSome result (λ s. (s.from ≤ index) × (index < s.to) × (s.to ≤ 1024)) };
+        ensures free { IfSome result (AreFree (addresses self.now) base) }
+        ensures inside { IfSome result (λ k. (k.here.from ≤ index) × (index < k.here.to)) };
 }
 
 /// None.
@@ -59,8 +90,8 @@ impl Stops for NoStops {
     }
 
     #[inline(always)]
-    fn free_at(&self, _base: u64, _index: usize, _known: Stretch) -> Option<Stretch> {
-        Some(Stretch { from: 0, to: 1024 })
+    fn free_at(&self, _base: u64, _index: usize, known: Known) -> Option<Known> {
+        Some(known.with(Stretch { from: 0, to: 1024 }))
     }
 }
 
@@ -105,16 +136,19 @@ impl Stops for Breakpoints<'_> {
     }
 
     #[inline]
-    fn free_at(&self, base: u64, index: usize, known: Stretch) -> Option<Stretch> {
-        if known.from <= index && index < known.to {
+    fn free_at(&self, base: u64, index: usize, known: Known) -> Option<Known> {
+        if known.here.has_word(index) {
             return Some(known);
+        }
+        if known.before.has_word(index) {
+            return Some(known.with(known.before));
         }
         if self.has(base.wrapping_add(4 * index as u64)) {
             return None;
         }
-        Some(Stretch {
+        Some(known.with(Stretch {
             from: index,
             to: self.clear_to(base, index),
-        })
+        }))
     }
 }

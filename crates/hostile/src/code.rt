@@ -158,7 +158,7 @@ word:   addi a0, zero, 6
 ";
 
 // An instruction is written into each of 65 pages, which adds the page's number, and they run in turn, twice.
-// Decoded words have slots for 64 frames, so two of the pages share theirs.
+// The words of 64 pages are kept, in sets of two, so three of these pages are in one set.
 const PAGES: &str = "
         la s0, place
         lw s1, 0(s0)

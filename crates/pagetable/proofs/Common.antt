@@ -20,7 +20,7 @@ pub use Rattle.sv39.specs.Walk.{base, follow, frame_at, is_canonical, then_at}
 unfoldable pub use Rattle.sv39.specs.Walk.{entry_of, walk_high, walk_low, walk_mid, walk_of}
 pub use Rattle.unixmodel.specs.Translation.{leaf_allows, walk_page}
 pub use Rattle.unixmodel.specs.declared.trap.Access.{Access}
-pub use Rattle.pagetable.specs.Shape.{Adds, IsEmpty, IsTidy, IsUsed, made_by, Removes, table_of}
+pub use Rattle.pagetable.specs.Shape.{Adds, IsEmpty, IsLast, IsTidy, IsUsed, made_by, Removes, table_of}
 unfoldable pub use Rattle.pagetable.specs.Shape.{made}
 pub use Rattle.pagetable.specs.Tree.{a_leaf, a_table, child_at, HasTable, Inserts, IsEntry, IsLeafEntry, IsLeafMarks}
 pub use Rattle.pagetable.specs.Tree.{IsNode, IsPaged, IsTableEntry, IsTree, IsUpper, Keeps, leaf_at, leaf_entry, Links}

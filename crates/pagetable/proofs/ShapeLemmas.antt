@@ -5,9 +5,10 @@ use Rattle.pagetable.proofs.Common.{low_node, made, made_by, mid_node, missing, 
 use Rattle.pagetable.proofs.Common.{SameMap, Some, sym, table_at, table_of, unwrap_or, ℕ, ◌++◌, ◌+◌, ◌<◌, ◌^◌, ◌∙◌, ◌≡◌}
 use Rattle.pagetable.proofs.Common.{◌≢◌, ◌⊎◌, child_at, entry_of, leaf_at, leaf_of, Low, Mid, Removes, ◌%◌, ◌*◌, ◌/◌}
 use Rattle.pagetable.proofs.Common.{[], among, frame_of, free_of-same, get_or-set_other, IsEmpty, IsFreeList}
-use Rattle.pagetable.proofs.Common.{IsFreeList-same, length-set, no_table, replicate, Root, slice_set, true, ◌∷◌}
+use Rattle.pagetable.proofs.Common.{IsFreeList-same, IsLast, length-set, no_table, replicate, Root, SameTables}
+use Rattle.pagetable.proofs.Common.{slice_set, true, ◌∷◌}
 use Rattle.pagetable.proofs.TreeLemmas.{cases_node, free_count-taken, child_of-some, leaf_of-some, child_of-zero}
-use Rattle.pagetable.proofs.TreeLemmas.{entry_of-zeros, free-first, further-taken, root_at}
+use Rattle.pagetable.proofs.TreeLemmas.{entry_of-zeros, free-first, further-taken, low_is_node, mid_is_node, root_at}
 
 -- ---- a page is added
 
@@ -189,6 +190,81 @@ pub Removes-after : (m k l : Ram) (r page : ℕ) → SameMap k l r → Removes (
     → Removes (lookup_of m r) (lookup_of l r) page
 Removes-after m k l r page same rem =
     record { changed = same page ∙ rem.changed; others = λ p small ne. same p ∙ rem.others p small ne }
+
+-- the entry of a page names nothing now
+pub record IsCleared (m k : Ram) (r page : ℕ) (s : Frames) : Type 0 where
+  pub tables : SameTables m k r
+  pub removes : Removes (lookup_of m r) (lookup_of k r) page
+  pub free : free_of k s ≡ free_of m s
+
+-- the table at a node went back
+pub record IsDropped (m k : Ram) (r : ℕ) (x : Node) (t : ℕ) (s n : Frames) : Type 0 where
+  pub given : free_of k n ≡ t ∷ free_of m s
+  pub gone : table_at k r x ≡ None
+  pub beside : (y : Node) → IsNode y → y ≢ x → table_at k r y ≡ table_at m r y
+  pub same : SameMap m k r
+
+-- the tables on the way to a page
+pub record IsWay (m : Ram) (r page mid low : ℕ) : Type 0 where
+  pub at_mid : table_at m r (mid_node page) ≡ Some mid
+  pub at_low : table_at m r (low_node page) ≡ Some low
+
+module _ {m k a : Ram} {r page mid low : ℕ} {s n : Frames} (way : IsWay m r page mid low)
+    (clear : IsCleared m k r page s) (one : IsDropped k a r (low_node page) low s n) where
+  pub low-removes : Removes (lookup_of m r) (lookup_of a r) page
+  low-removes = Removes-after m k a r page one.same clear.removes
+
+  pub low-mid : table_at a r (mid_node page) ≡ Some mid
+  low-mid = one.beside (mid_node page) (mid_is_node page) (λ e. cc)
+      ∙ clear.tables (mid_node page) (mid_is_node page) ∙ way.at_mid
+
+  pub low-drops : Adds a m r page n s
+  low-drops = Adds-by a m r page n s (sym low-mid) (sym one.gone) refl refl way.at_mid way.at_low
+      (λ x nx _ nl. sym (one.beside x nx nl ∙ clear.tables x nx)) (rw clear.free at one.given)
+
+  module _ {b : Ram} {w : Frames} (two : IsDropped a b r (mid_node page) mid n w) where
+    pub both-low : table_at b r (low_node page) ≡ None
+    both-low = two.beside (low_node page) (low_is_node page) (λ e. cc) ∙ one.gone
+
+    pub both-removes : Removes (lookup_of m r) (lookup_of b r) page
+    both-removes = Removes-after m k b r page (λ p. two.same p ∙ one.same p) clear.removes
+
+    pub both-drops : Adds b m r page w s
+    both-drops = Adds-by b m r page w s (sym two.gone) (sym both-low) refl refl way.at_mid way.at_low
+        (λ x nx nm nl. sym (two.beside x nx nm ∙ one.beside x nx nl ∙ clear.tables x nx))
+        (two.given ∙ ap (λ l. mid ∷ l) (rw clear.free at one.given))
+
+    pub both-tidy : IsTidy m r → IsTidy b r
+    both-tidy is = IsTidy-remove is both-removes both-drops (λ t h. absurd (some-none (sym h ∙ two.gone)))
+        (λ t h. absurd (some-none (sym h ∙ both-low)))
+
+-- where a page was the last one of its table of the middle level, both tables on the way to it name nothing
+module _ (m z : Ram) (r page : ℕ) (last : IsLast m r page) (rem : Removes (lookup_of m r) (lookup_of z r) page)
+    (small : page < 2 ^ 27) where
+  last-unused : IsUsed z r (mid_node page) → ⊥
+  last-unused u = elim u.over [
+    | inl e ↦ elim (cases_eq u.page page) [
+      | inl same ↦ let none = ap (lookup_of z r) same ∙ rem.changed in let some = u.mapped in cc
+      | inr other ↦
+          let none = rem.others u.page u.inside other ∙ last u.page u.inside other (sym e) in
+          let some = u.mapped in
+          cc
+    ]
+    | inr e ↦ cc
+  ]
+
+  pub last-low : {u : ℕ} → table_at z r (low_node page) ≡ Some u → (i : ℕ) → i < 512 → entry_of z u i ≡ 0
+  last-low {u} at i l = elim (cases_eq (entry_of z u i) 0) [
+    | inl e ↦ e
+    | inr ne ↦ absurd (last-unused (used-low z r page i small at l ne (mid_node page) (inl refl)))
+  ]
+
+  pub last-mid : {s n : Frames} {t : ℕ} → IsTidy m r → Adds z m r page n s → table_at z r (mid_node page) ≡ Some t
+      → table_at z r (low_node page) ≡ None → (i : ℕ) → i < 512 → entry_of z t i ≡ 0
+  last-mid {s} {n} {t} is drops at none i l = elim (cases_eq (entry_of z t i) 0) [
+    | inl e ↦ e
+    | inr ne ↦ absurd (last-unused (used-mid is rem drops t i small at none l ne))
+  ]
 
 -- ---- a page table that maps nothing
 

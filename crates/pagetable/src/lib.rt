@@ -14,7 +14,7 @@ ghost use Rattle.frames.specs.Holders.{one_if};
 ghost use Rattle.sv39.specs.Walk.{base, entry_of, numbered};
 ghost use Rattle.pagetable.specs.Agree.{WalksByMap};
 ghost use Rattle.pagetable.specs.Marks.{leaf_marks};
-ghost use Rattle.pagetable.specs.Shape.{table_of, IsTidy, IsEmpty, Adds, Removes};
+ghost use Rattle.pagetable.specs.Shape.{table_of, IsLast, IsTidy, IsEmpty, Adds, Removes};
 ghost use Rattle.pagetable.specs.Tree.{Root, table_entry, leaf_entry, child_of, leaf_of, table_at, low_node, mid_node};
 ghost use Rattle.pagetable.specs.Tree.{lookup_of, IsTableEntry, IsLeafEntry, IsLeafMarks, IsTree, IsPaged, Keeps};
 ghost use Rattle.pagetable.specs.Tree.{HasTable, Writes, Links, missing, Maps, SameMap, SameTables, SameTablesBut};
@@ -47,6 +47,14 @@ pub struct Full;
 #[derive(Clone, Copy, PartialEq, Eq, Debug)]
 pub struct PageTable {
     pub root: FrameNo,
+}
+
+// How a page is mapped: the tables on the way to it, and its frame.
+#[derive(Clone, Copy)]
+struct Way {
+    mid: FrameNo,
+    low: FrameNo,
+    frame: FrameNo,
 }
 
 // The bits of a mark, where it is set.
@@ -450,6 +458,26 @@ impl PageTable {
         clear(ram, low, page % ENTRIES);
     }
 
+    // The way to a page that is mapped.
+    fn way(&self, ram: &Ram, page: u64) -> Way
+        requires tree { IsTree ram.now self.now.root.0 }
+        requires mapped { lookup_of ram.now self.now.root.0 page ≢ None }
+        ensures mid { table_at ram.now self.now.root.0 (mid_node page) ≡ Some result.mid.0 }
+        ensures low { table_at ram.now self.now.root.0 (low_node page) ≡ Some result.low.0 }
+        ensures frame { option_map (λ x. x.0) (lookup_of ram.now self.now.root.0 page) ≡ Some result.frame.0 }
+    {
+        let Some(mid) = self.mid_table(ram, page) else {
+            unreachable!()
+        };
+        let Some(low) = self.low_table(ram, page) else {
+            unreachable!()
+        };
+        let Some((frame, _)) = leaf(ram, low, page % ENTRIES) else {
+            unreachable!()
+        };
+        Way { mid, low, frame }
+    }
+
     /// Takes a page out of the map, and returns the frame that it was mapped to.
     ///
     /// A table that maps nothing from then on goes back to the free frames, so no table except the root
@@ -467,25 +495,42 @@ impl PageTable {
         ensures keeps { Keeps ram.old ram.new self.now.root.0 frames.old frames.new }
         ensures extra { extra_of frames.new ≡ extra_of frames.old }
     {
-        let Some(mid) = self.mid_table(ram, page) else {
-            unreachable!()
-        };
-        let Some(low) = self.low_table(ram, page) else {
-            unreachable!()
-        };
-        let Some((frame, _)) = leaf(ram, low, page % ENTRIES) else {
-            unreachable!()
-        };
-        self.clear_leaf(ram, frames, page, low);
-        if is_used(ram, low) {
-            return frame;
+        let way = self.way(ram, page);
+        self.clear_leaf(ram, frames, page, way.low);
+        if is_used(ram, way.low) {
+            return way.frame;
         }
-        self.drop_low(ram, frames, page, mid, low);
-        if is_used(ram, mid) {
-            return frame;
+        self.drop_low(ram, frames, page, way.mid, way.low);
+        if is_used(ram, way.mid) {
+            return way.frame;
         }
-        self.drop_mid(ram, frames, page, mid);
-        frame
+        self.drop_mid(ram, frames, page, way.mid);
+        way.frame
+    }
+
+    /// Takes the last page out of a table of the middle level, and returns the frame that it was mapped to.
+    ///
+    /// Both tables on the way to it go back to the free frames, and nothing is looked through: `unmap` reads each table
+    /// that it gives back. The page's own frame is the caller's.
+    pub fn unmap_last(&self, ram: &mut Ram, frames: &mut Frames, page: u64) -> FrameNo
+        requires paged { IsPaged ram.old self.now.root.0 frames.old }
+        requires tidy { IsTidy ram.old self.now.root.0 }
+        requires page { page < 2 ^ 27 }
+        requires mapped { lookup_of ram.old self.now.root.0 page ≢ None }
+        requires last { IsLast ram.old self.now.root.0 page }
+        ensures was { option_map (λ x. x.0) (lookup_of ram.old self.now.root.0 page) ≡ Some result.0 }
+        ensures removes { Removes (lookup_of ram.old self.now.root.0) (lookup_of ram.new self.now.root.0) page }
+        ensures drops { Adds ram.new ram.old self.now.root.0 page frames.new frames.old }
+        ensures tidy { IsTidy ram.new self.now.root.0 }
+        ensures paged { IsPaged ram.new self.now.root.0 frames.new }
+        ensures keeps { Keeps ram.old ram.new self.now.root.0 frames.old frames.new }
+        ensures extra { extra_of frames.new ≡ extra_of frames.old }
+    {
+        let way = self.way(ram, page);
+        self.clear_leaf(ram, frames, page, way.low);
+        self.drop_low(ram, frames, page, way.mid, way.low);
+        self.drop_mid(ram, frames, page, way.mid);
+        way.frame
     }
 
     /// Gives back the root of a page table that maps nothing, which is its only table.

@@ -30,12 +30,12 @@ fn frame_by<T: Translate>(
     }
 }
 
-/// Asks the translator below, and remembers its results until it is fenced: for each kind of access one in each of 64
-/// slots. A page's slot is its number modulo 64, and what is remembered is used only for its root, page and access.
+/// Asks the translator below, and remembers its results until it is fenced: for each kind of access one in each of 256
+/// slots. A page's slot is its number modulo 256, and what is remembered is used only for its root, page and access.
 #[derive(Drop)]
 pub struct Recent<T: Translate> {
     below: T,
-    places: Places<64>,
+    places: Places<256>,
 }
 
 impl<T: Translate> Recent<T> {
@@ -67,7 +67,7 @@ impl<T: Translate> Recent<T> {
             (Knows T.held self.new.below self.new.places) ram.now root.0 }
         ensures below { IsKept (T.held self.old.below) (T.held self.new.below) ram.now root.0 }
         ensures joins { IfSome result (λ f. Remembers self.new.places (asked root.0 va access f.0)) }
-        ensures stays { KeepsOthers 64 (va / 4096) (Remembers self.old.places) (Remembers self.new.places) }
+        ensures stays { KeepsOthers 256 (va / 4096) (Remembers self.old.places) (Remembers self.new.places) }
     {
         let frame = frame_by(&mut self.below, ram, root, va, access)?;
         self.places.keep(root, va / 4096, access, frame);
@@ -90,7 +90,7 @@ impl<T: Translate> Recent<T> {
             IsFound (T.held self.old.below) ram.now root.0 va access (numbered result)
             × IsKept (T.held self.old.below) (T.held self.new.below) ram.now root.0 }
         ensures joins { IfSome result (λ f. Remembers self.new.places (asked root.0 va access f.0)) }
-        ensures stays { KeepsOthers 64 (va / 4096) (Remembers self.old.places) (Remembers self.new.places) }
+        ensures stays { KeepsOthers 256 (va / 4096) (Remembers self.old.places) (Remembers self.new.places) }
     {
         if let Some(frame) = self.places.kept(root, va, access) {
             return Some(frame);
@@ -116,7 +116,7 @@ impl<T: Translate> Translate for Recent<T> {
             IsAnswer (T.held self.old.below) ram.now root.0 va access (result_ok result)
             × IsKept (T.held self.old.below) (T.held self.new.below) ram.now root.0 }
         ensures joins { IfOk result (Reaches (Remembers self.new.places) root.0 va access) }
-        ensures stays { KeepsOthers 64 (va / 4096) (Remembers self.old.places) (Remembers self.new.places) }
+        ensures stays { KeepsOthers 256 (va / 4096) (Remembers self.old.places) (Remembers self.new.places) }
     {
         match self.frame(ram, root, va, access) {
             Some(frame) => Ok(address(frame, va)),

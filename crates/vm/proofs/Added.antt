@@ -11,7 +11,7 @@ use Rattle.vm.proofs.Common.{option_map, Removes, SameBut, Some, sym, Trades-giv
 use Rattle.vm.proofs.Common.{among_first_not, eqb, free-first, free_count-taken, get_or-set_other, HasTable, IsEmpty}
 use Rattle.vm.proofs.Common.{IsEmpty-tables, IsNode, length-set, lookup_of-same, low_node, made-is, mid_is_node}
 use Rattle.vm.proofs.Common.{mid_node, missing-is, Node, None, none-among, only-root, replicate, Root, root_at}
-use Rattle.vm.proofs.Common.{slice_set, table_at, table_at-same, table_of, trap_marks}
+use Rattle.vm.proofs.Common.{IsLast, Mid, slice_set, table_at, table_at-same, table_of, trap_marks, ◌%◌, ◌/◌}
 use Rattle.vm.proofs.DenseLemmas.{list-after, Besides, Trades-held, Trades-with, alone-set, beyond-held, count-held}
 use Rattle.vm.proofs.DenseLemmas.{dense-set, frame_at-is, held-same, IsNext, IsTaken, length-held, made-tables}
 use Rattle.vm.proofs.DenseLemmas.{marks_at-is, missing-next, page-held, pages_below-more, pages_below-same}
@@ -280,6 +280,18 @@ module _ {m z : Ram} {r t n f : ℕ} {s q : Frames} (is : OwnsFrames m r t n s) 
       }
 
 -- ---- the last page goes
+
+mid-same : (a b : ℕ) → Mid a ≡ Mid b → a ≡ b
+mid-same a b e = cc
+
+-- page 0 is the last of its tables where a space has one page; the trap frame's is, where it has none
+pub last-zero : {m : Ram} {r t n : ℕ} → n ≡ 0 → IsDense m r t (n + 1) → IsLast m r n
+last-zero {n = n} zero is p small ne e = is.rest p (omega arith) small (λ f.
+    let at : 67108862 / 262144 % 512 ≡ n / 262144 % 512 = mid-same _ _ (sym (ap mid_node f) ∙ e) in
+    omega arith)
+
+pub last-trap : {m : Ram} {r t : ℕ} → IsDense m r t 0 → IsLast m r trap_page
+last-trap is p small ne e = is.rest p (omega arith) small ne
 
 -- page n is unmapped, and then its frame f is given back
 pub record IsUnmapped (m j : Ram) (r n f : ℕ) (s a : Frames) : Type 0 where

@@ -13,9 +13,11 @@
 ghost use Rattle.std.specs.Prelude.{◌≡◌, ◌≢◌, ℕ, ◌+◌, ◌-◌, ◌*◌, ◌/◌, ◌%◌, ◌^◌, ◌<◌, ◌≤◌, List, [], ◌∷◌, ◌++◌, length};
 ghost use Rattle.std.specs.Prelude.{take, replicate, None, Some, true, false, OnOk, OnErr, IsErrOf, IsTrue, ◌↔◌, ◌⊎◌};
 ghost use Rattle.ram.specs.Memory.{frame_of};
-ghost use Rattle.frames.specs.Free.{among, free_of, free_count, IsFreeList};
+ghost use Rattle.frames.specs.Free.{among, extra_of, free_of, free_count, IsFreeList};
 ghost use Rattle.frames.specs.Holders.{Trades, one_if};
-ghost use Rattle.pagetable.specs.Tree.{IsLeafMarks};
+ghost use Rattle.std.specs.Option.{option_map};
+ghost use Rattle.pagetable.specs.Shape.{Adds, IsTidy, Removes};
+ghost use Rattle.pagetable.specs.Tree.{IsLeafMarks, IsPaged, Keeps, lookup_of};
 ghost use Rattle.vm.specs.Dense.{IsDense, OwnsFrames, frames_for, marks_at, SameLeaves, SameLeavesUpTo, blank_page};
 ghost use Rattle.unixmodel.specs.Memory.{shared_marks, shared_memory};
 ghost use Rattle.vm.specs.Leaf.{marks_from, rights_from, user_leaf, IsUserLeaf};
@@ -324,6 +326,25 @@ impl Space {
         Ok(())
     }
 
+    // Takes the last page out of the tables. Page 0 is the only one of its tables, which go back without being read.
+    fn unmap_page(&self, ram: &mut Ram, frames: &mut Frames, n: u64) -> FrameNo
+        requires { OwnsFrames ram.old self.now.root.0 self.now.trap.0 (n + 1) frames.old }
+        ensures was { option_map (λ x. x.0) (lookup_of ram.old self.now.root.0 n) ≡ Some result.0 }
+        ensures removes { Removes (lookup_of ram.old self.now.root.0) (lookup_of ram.new self.now.root.0) n }
+        ensures drops { Adds ram.new ram.old self.now.root.0 n frames.new frames.old }
+        ensures tidy { IsTidy ram.new self.now.root.0 }
+        ensures paged { IsPaged ram.new self.now.root.0 frames.new }
+        ensures keeps { Keeps ram.old ram.new self.now.root.0 frames.old frames.new }
+        ensures extra { extra_of frames.new ≡ extra_of frames.old }
+    {
+        let table = PageTable { root: self.root };
+        if n == 0 {
+            table.unmap_last(ram, frames, n)
+        } else {
+            table.unmap(ram, frames, n)
+        }
+    }
+
     // Gives back the last page.
     fn drop_page(&self, ram: &mut Ram, frames: &mut Frames, n: u64)
         requires { OwnsFrames ram.old self.now.root.0 self.now.trap.0 (n + 1) frames.old }
@@ -335,8 +356,7 @@ impl Space {
             (held_by ram.new self.now n) }
     {
         ram.frames_are_whole();
-        let table = PageTable { root: self.root };
-        let frame = table.unmap(ram, frames, n);
+        let frame = self.unmap_page(ram, frames, n);
         frames.give(ram, frame);
     }
 
@@ -388,7 +408,7 @@ impl Space {
         ram.frames_are_whole();
         self.drop_pages(ram, frames, pages_in(self.size), 0);
         let table = PageTable { root: self.root };
-        let trap = table.unmap(ram, frames, TRAP_PAGE);
+        let trap = table.unmap_last(ram, frames, TRAP_PAGE);
         frames.give(ram, trap);
         table.destroy(ram, frames);
     }

@@ -9,7 +9,7 @@ clear : (g : given.Over) (c : After-straight-done g)
     → IsClear (g.S.Stops.addresses c.args.stops.now) (c.args.self.now.pc / 4096 * 4096) c.loop-k.k
     c.first_of-end.result
 clear g c =
-    let free = c.loop-k.invariant.4 in
+    let free = c.loop-k.invariant.4.here in
     free-clear _ _ c.loop-k.invariant.5 c.first_of-end.ensures.end free
 
 pub loop-k-init : goal.loop-k-init
@@ -18,8 +18,12 @@ loop-k-init g c = (
   omega arith,
   omega arith,
   omega arith,
-  (λ j since less. c.clear_to.ensures.clear j (omega (arith, since)) less),
-  omega arith,
+  record {
+    here = λ j since less. c.clear_to.ensures.clear j (omega (arith, since)) less;
+    before = λ j since less. absurd (omega (arith, less));
+    within = c.clear_to.ensures.within.1;
+    within_before = omega arith;
+  },
   omega arith,
   omega arith,
 )
@@ -39,7 +43,6 @@ loop-k-preserved g c =
       c.in-Some.ensures.free,
       omega (arith, c.in-Some.ensures.inside.0),
       c.in-Some.ensures.inside.1,
-      c.in-Some.ensures.inside.2,
     )
 
 pub returns-in_default-clause-goes : goal.returns-in_default-clause-goes
