@@ -27,7 +27,7 @@ use Rattle.unixmodel.specs.Shown.{ShowsMemory, shown_page, shown_process, told_p
 use Rattle.kernel.proofs.Holding.{FitsIn, map-same, Processes, Views}
 use Rattle.kernel.proofs.Changes.{length-active, other-at, running-active}
 use Rattle.proc.specs.Places as table
-use Rattle.kernel.specs.Idle.{is_anyone_asleep, is_idle, is_sleeping, is_sleeping_mode}
+use Rattle.kernel.specs.Idle.{is_anyone_asleep, is_idle, is_sleeping_mode, is_time_awaited, sleeps_on_at}
 
 -- ---- the pipe of an open file
 
@@ -366,19 +366,31 @@ module _ (k : Kernel) (is : IsKernel k) where
 
 -- ---- who sleeps
 
-abbrev sleeps : Process → Bool
-sleeps p = is_sleeping_mode p.mode
+-- what a test of modes says of the table it says of the state
+module _ (test : Mode → Bool) where
+  abbrev tested : Process → Bool
+  tested p = test p.mode
 
-sleeping-joined : (os : Processes) (hs : Views)
-    → list_any (holds is_sleeping) (joined os hs) ≡ list_any (holds sleeps) os
-unfolding joined
-sleeping-joined [] hs = refl
-sleeping-joined (None ∷ os) hs = sleeping-joined os (drop 1 hs)
-sleeping-joined (Some p ∷ os) hs = ap (λ b. sleeps p || b) (sleeping-joined os (drop 1 hs))
+  tested-joined : (os : Processes) (hs : Views)
+      → list_any (holds (λ (p : unix.Process). test p.mode)) (joined os hs) ≡ list_any (holds tested) os
+  unfolding joined
+  tested-joined [] hs = refl
+  tested-joined (None ∷ os) hs = tested-joined os (drop 1 hs)
+  tested-joined (Some p ∷ os) hs = ap (λ b. tested p || b) (tested-joined os (drop 1 hs))
 
-pub asleep-state : (k : Kernel) → list_any (holds sleeps) k.table.places ≡ is_anyone_asleep (state_of k)
-asleep-state k =
-    sym (found-any (holds sleeps) _)
-    ∙ ap is_some (sym (place-changed sleeps (λ s p. refl) k.table k.spaces k.spaces.active))
-    ∙ found-any (holds sleeps) (loaded k).places
-    ∙ sym (sleeping-joined _ _)
+  tested-state : (k : Kernel)
+      → list_any (holds tested) k.table.places
+      ≡ list_any (holds (λ (p : unix.Process). test p.mode)) (state_of k).places
+  tested-state k =
+      sym (found-any (holds tested) _)
+      ∙ ap is_some (sym (place-changed tested (λ s p. refl) k.table k.spaces k.spaces.active))
+      ∙ found-any (holds tested) (loaded k).places
+      ∙ sym (tested-joined _ _)
+
+pub asleep-state : (k : Kernel)
+    → list_any (holds (λ (p : Process). is_sleeping_mode p.mode)) k.table.places ≡ is_anyone_asleep (state_of k)
+asleep-state = tested-state is_sleeping_mode
+
+pub awaited-state : (k : Kernel)
+    → list_any (holds (λ (p : Process). sleeps_on_at k.ticks p.mode)) k.table.places ≡ is_time_awaited (state_of k)
+awaited-state k = tested-state (sleeps_on_at k.ticks) k

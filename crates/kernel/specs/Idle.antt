@@ -1,6 +1,7 @@
 -- Whether anything goes on: who runs, who is ready, and who sleeps.
-use Rattle.std.specs.Prelude.{Bool, Option, false, is_none, option_and_then, option_map, true, ℕ, ◌&&◌}
+use Rattle.std.specs.Prelude.{Bool, Option, false, is_none, option_and_then, not, option_map, true, ℕ, ◌&&◌}
 use Rattle.std.specs.List.{list_any}
+use Rattle.kernel.specs.Ready.{has_slept}
 use Rattle.unixmodel.specs.declared.call.Call.{Call}
 use Rattle.unixmodel.specs.declared.call.Call.TheVariants.{Sleep}
 use Rattle.unixmodel.specs.declared.process.Mode.{Mode}
@@ -42,3 +43,17 @@ is_sleeping p = is_sleeping_mode p.mode
 -- a process waits in sleep, so time alone can make it ready
 abbrev pub is_anyone_asleep : State → Bool
 is_anyone_asleep s = list_any (holds is_sleeping) s.places
+
+-- a process waits in a sleep that isn't over at a count of ticks
+abbrev pub sleeps_on_at : ℕ → Mode → Bool
+sleeps_on_at ticks Running = false
+sleeps_on_at ticks Ready = false
+sleeps_on_at ticks (Waiting w) = is_sleep w.number && not (has_slept ticks w)
+sleeps_on_at ticks (Zombie status) = false
+
+abbrev pub sleeps_on : ℕ → Process → Bool
+sleeps_on ticks p = sleeps_on_at ticks p.mode
+
+-- a process waits in a sleep that isn't over, so a tick changes how long it still waits
+abbrev pub is_time_awaited : State → Bool
+is_time_awaited s = list_any (holds (sleeps_on s.ticks)) s.places

@@ -3,7 +3,8 @@ ghost use Rattle.std.specs.Prelude.{◌≡◌, None};
 ghost use Rattle.std.specs.List.{list_any};
 ghost use Rattle.files.specs.Pipes.{IsPiped};
 ghost use Rattle.files.specs.Places.{opens_of};
-ghost use Rattle.kernel.specs.Idle.{is_anyone_asleep, is_idle, is_sleep, is_sleeping_mode, picked_pid, running_pid};
+ghost use Rattle.kernel.specs.Idle.{is_anyone_asleep, is_idle, is_sleep, is_sleeping_mode, is_time_awaited};
+ghost use Rattle.kernel.specs.Idle.{picked_pid, running_pid, sleeps_on_at};
 ghost use Rattle.kernel.specs.Kernel.{state_of, ticked};
 ghost use Rattle.kernel.specs.Ready.{awaited, seen};
 ghost use Rattle.proc.specs.declared.process.Process.{Process};
@@ -11,7 +12,7 @@ ghost use Rattle.unixmodel.specs.State.{holds};
 ghost use Rattle.unixmodel.specs.Turn.{ready, turn};
 
 use crate::kernel::Kernel;
-use crate::ready::Awaited;
+use crate::ready::{Awaited, has_slept};
 use blockdev::BlockDev;
 use proc::{PLACES, Place};
 use sv39::Translate;
@@ -34,6 +35,27 @@ fn any_sleeping(places: &[Place]) -> bool
 {
     places.iter().any(|place| match place {
         Some(process) => is_sleeping(process.mode),
+        None => false,
+    })
+}
+
+// Whether a process is in a `sleep` that isn't over at a count of ticks.
+fn sleeps_on(mode: Mode, ticks: u32) -> bool
+    ensures { result ≡ sleeps_on_at ticks mode }
+{
+    match mode {
+        Mode::Waiting(pending) => matches!(pending.number, Call::Sleep)
+            && !has_slept(ticks, &pending),
+        _ => false,
+    }
+}
+
+// Whether a process in one of these slots is in a `sleep` that isn't over at a count of ticks.
+fn any_sleeping_on(places: &[Place], ticks: u32) -> bool
+    ensures { result ≡ list_any (holds (λ (p : Process). sleeps_on_at ticks p.mode)) places.now }
+{
+    places.iter().any(|place| match place {
+        Some(process) => sleeps_on(process.mode, ticks),
         None => false,
     })
 }
@@ -130,5 +152,12 @@ impl<D: BlockDev, T: Translate> Kernel<D, T> {
         ensures { result ≡ is_anyone_asleep (state_of self.now) }
     {
         any_sleeping(self.table.places())
+    }
+
+    /// Whether a process waits in a `sleep` that isn't over, so that one more tick changes how long it waits.
+    pub fn is_time_awaited(&self) -> bool
+        ensures { result ≡ is_time_awaited (state_of self.now) }
+    {
+        any_sleeping_on(self.table.places(), self.ticks)
     }
 }

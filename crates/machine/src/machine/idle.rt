@@ -1,6 +1,6 @@
 //! Who runs, and whether a machine has anything to do.
 ghost use Rattle.std.specs.Prelude.{◌≡◌};
-ghost use Rattle.kernel.specs.Idle.{is_anyone_asleep, is_idle, picked_pid, running_pid};
+ghost use Rattle.kernel.specs.Idle.{is_anyone_asleep, is_idle, is_time_awaited, picked_pid, running_pid};
 ghost use Rattle.unixmodel.specs.Next.{next};
 ghost use Rattle.unixmodel.specs.declared.event.Event.TheVariants.{Tick};
 
@@ -36,5 +36,12 @@ impl<D: BlockDev, T: Translate> Machine<D, T> {
         ensures { result ≡ is_anyone_asleep self.now.state }
     {
         self.kernel.is_anyone_asleep()
+    }
+
+    /// Whether a process waits in a `sleep` that isn't over, so that a tick changes how long it still waits.
+    pub fn is_time_awaited(&self) -> bool
+        ensures { result ≡ is_time_awaited self.now.state }
+    {
+        self.kernel.is_time_awaited()
     }
 }
