@@ -267,6 +267,21 @@ gdb: $(if $(RUN),,user-c) | program
 	$(if $(RUN),,$(MAKE) -C user-c ../$(IMAGE_C) XV6=$(abspath $(PROGRAM)) && $(MAKE) -C user-c $(notdir $(patsubst %.c,%.elf,$(wildcard user-c/*.c))))
 	tools/gdb.sh $(PROGRAM) $(or $(RUN),$(IMAGE_C)) '$(or $(SYMBOLS),$(if $(RUN),,out/user-c))' $(SCRIPT)
 
+# Tries every order of calls of a program of examples/races, as make explore RACE=locks WORDS="--ticks 2": docs/RACES.md.
+.PHONY: explore check-explore
+RACE := counter
+WORDS :=
+
+explore: | program
+	$(MAKE) -s -C examples/races XV6=$(abspath $(PROGRAM)) out/$(RACE).img
+	$(PROGRAM) explore $(WORDS) --scripts examples/races/out/$(RACE).scripts examples/races/out/$(RACE).img || true
+
+# Explores the programs of examples/races and 50 random ones, both ways, and replays each outcome by its script; then by a plain search.
+# It needs Debian's package gcc-riscv64-unknown-elf, and for the last part `make library`.
+check-explore: | program
+	trials/explore/check.py $(PROGRAM)
+	trials/explore/plain.py $(PROGRAM)
+
 # Debugs small programs in C by scripts of gdb and lldb, and compares what they print; then 200 random runs, times from all sides, and hostile packets.
 # It needs Debian's packages gdb-multiarch and gcc-riscv64-unknown-elf; what is for lldb is left out where there is none.
 check-gdb: | program

@@ -1,5 +1,6 @@
 //! Stored runs: jobs done with files in memory, and what they have to write.
 mod crashing;
+mod exploring;
 mod images;
 mod listing;
 mod living;

@@ -1,9 +1,10 @@
 -- The command line that the program declares, and what a job says of it.
-use Rattle.std.specs.Prelude.{◌≡◌, ◌↔◌, IsTrue, Bool, ℕ, pos, List, [], ◌∷◌, None, Option, Some, true, false, codes}
+use Rattle.std.specs.Prelude.{◌≡◌, ◌↔◌, IsTrue, Bool, ℕ, ℤ, negsuc, pos, List, [], ◌∷◌, None, Option, Some, true, false}
+use Rattle.std.specs.Prelude.{codes}
 use Rattle.std.specs.Prelude.{fold, option_map, slice_get}
 use Rattle.std.specs.Borrow.{Bor}
 use Rattle.std.specs.Int.NonZero.{non_zero_u64_get}
-use Rattle.std.specs.Str.Parse.{IsNumeral, digits_value}
+use Rattle.std.specs.Str.Parse.{IsNumeral, digits_value, signed_digits_value, without_leading_sign}
 use Rattle.std.specs.declared.num.NonZeroU64.{NonZeroU64}
 use Rattle.clap.specs.Words.{App, Row, Rule, Text, all_of, app_of, first_of, new_app, new_rule, with_rule}
 use Rattle.clap.specs.Words.{with_subcommand}
@@ -19,6 +20,7 @@ use Rattle.commandline.specs.declared.jobs.As.{As}
 use Rattle.commandline.specs.declared.jobs.Asm.{Asm}
 use Rattle.commandline.specs.declared.jobs.Check.{Check}
 use Rattle.commandline.specs.declared.jobs.Dump.{Dump}
+use Rattle.commandline.specs.declared.jobs.Explore.{Explore}
 use Rattle.commandline.specs.declared.jobs.Files.{Files}
 use Rattle.commandline.specs.declared.jobs.Flat.{Flat}
 use Rattle.commandline.specs.declared.jobs.Gdb.{Gdb}
@@ -33,6 +35,7 @@ use Rattle.commandline.specs.declared.jobs.Lines.{Lines}
 use Rattle.commandline.specs.declared.jobs.Part.{Part}
 use Rattle.commandline.specs.declared.jobs.Play.{Play}
 use Rattle.commandline.specs.declared.jobs.Put.{Put}
+use Rattle.commandline.specs.declared.jobs.Reach.{Reach}
 use Rattle.commandline.specs.declared.jobs.Telling.{Telling}
 use Rattle.commandline.specs.declared.jobs.Trace.{Trace}
 use Rattle.commandline.specs.declared.jobs.Run.{Run}
@@ -65,6 +68,14 @@ count_rule name = record (new_rule name) {
 -- the same of a number from 2 on
 abbrev pub several_rule : Text → Rule
 several_rule name = record (count_rule name) { parser = Some (Signed (pos 2) (pos 4294967295)) }
+
+-- the same of any number of 32 bits
+abbrev pub amount_rule : Text → Rule
+amount_rule name = record (count_rule name) { parser = Some (Signed (pos 0) (pos 4294967295)) }
+
+-- the same of a number of 32 bits with a sign
+abbrev pub signed_rule : Text → Rule
+signed_rule name = record (count_rule name) { parser = Some (Signed (negsuc 2147483647) (pos 2147483647)) }
 
 -- --name
 abbrev pub named_rule : Text → Rule
@@ -179,6 +190,30 @@ declared_gdb =
     (option_rule (codes "record"))) (flag_rule (codes "init")))) (last_rule (codes "IMAGE")))
     (last_rule (codes "SCRIPT"))
 
+-- [--ticks K] [--states N] [--seconds S] [--fine]
+abbrev pub bound_options : App → App
+bound_options app =
+    with_rule (with_rule (with_rule (with_rule app
+    (amount_rule (codes "ticks"))) (number_rule (codes "states") (codes "1000000"))) (count_rule (codes "seconds")))
+    (flag_rule (codes "fine"))
+
+-- [--scripts DIR] [--want FILE] [--status N]
+abbrev pub wanting_options : App → App
+wanting_options app =
+    with_rule (with_rule (with_rule app (option_rule (codes "scripts"))) (option_rule (codes "want")))
+    (signed_rule (codes "status"))
+
+-- [--random N] [--seed S]
+abbrev pub random_options : App → App
+random_options app = with_rule (with_rule app (count_rule (codes "random"))) (number_rule (codes "seed") (codes "1"))
+
+-- explore [--frames N] [..] IMAGE [SCRIPT]
+abbrev pub declared_explore : App
+declared_explore =
+    with_rule (with_bare (explained (random_options (wanting_options (bound_options
+    (with_rule (new_app (codes "explore")) (number_rule (codes "frames") (codes "256"))))))) (codes "IMAGE"))
+    (last_rule (codes "SCRIPT"))
+
 -- mkfs [--size N] [--inodes N] MANIFEST IMAGE
 abbrev pub declared_mkfs : App
 declared_mkfs =
@@ -235,8 +270,10 @@ declared_top = record (new_app (codes "xv6")) {
 -- what boots a machine
 abbrev pub with_machines : App → App
 with_machines app =
-    with_subcommand (with_subcommand (with_subcommand (with_subcommand (with_subcommand (with_subcommand app
-    declared_flat.top) declared_run.top) declared_live.top) declared_play.top) declared_trace.top) declared_gdb.top
+    with_subcommand (with_subcommand (with_subcommand (with_subcommand (with_subcommand (with_subcommand
+    (with_subcommand app
+    declared_flat.top) declared_run.top) declared_live.top) declared_play.top) declared_trace.top) declared_gdb.top)
+    declared_explore.top
 
 -- what works on disk images
 abbrev pub with_images : App → App
@@ -265,6 +302,8 @@ rule_given name given.Last = last_rule name
 rule_given name (given.Number default) = number_rule name default.now
 rule_given name (given.Count value) = count_rule name
 rule_given name (given.Several value) = several_rule name
+rule_given name (given.Amount value) = amount_rule name
+rule_given name (given.Signed value) = signed_rule name
 rule_given name (given.Option value) = option_rule name
 rule_given name (given.Short letter) = short_rule name letter
 rule_given name given.Each = each_rule name
@@ -293,6 +332,21 @@ IsWritten name found n = (text : Text) × (first_of name found ≡ Some text) ×
 abbrev pub IsCount : Text → List Row → Option NonZeroU64 → Type 0
 IsCount name found None = first_of name found ≡ None
 IsCount name found (Some n) = IsWritten name found (non_zero_u64_get n)
+
+-- the same of any number
+abbrev pub IsAmount : Text → List Row → Option ℕ → Type 0
+IsAmount name found None = first_of name found ≡ None
+IsAmount name found (Some n) = IsWritten name found n
+
+-- the text is z in decimal digits, after a sign or none
+pub record WritesSigned (text : Text) (z : ℤ) : Type 0 where
+  pub numeral : IsNumeral 10 (without_leading_sign text)
+  pub value : signed_digits_value 10 text ≡ z
+
+-- the same of a number with a sign
+abbrev pub IsSigned : Text → List Row → Option ℤ → Type 0
+IsSigned name found None = first_of name found ≡ None
+IsSigned name found (Some z) = (text : Text) × (first_of name found ≡ Some text) × WritesSigned text z
 
 -- the flag was found
 abbrev pub IsFlag : Text → List Row → Bool → Type 0
@@ -364,6 +418,23 @@ pub record IsGdb (found : List Row) (gdb : Gdb) : Type 0 where
   pub symbols : IsOption (codes "symbols") found gdb.symbols
   pub image : first_of (codes "IMAGE") found ≡ Some gdb.image.now
   pub script : IsOption (codes "SCRIPT") found gdb.script
+
+pub record IsReach (found : List Row) (reach : Reach) : Type 0 where
+  pub ticks : IsAmount (codes "ticks") found reach.ticks
+  pub states : IsWritten (codes "states") found reach.states
+  pub seconds : IsCount (codes "seconds") found reach.seconds
+  pub fine : IsFlag (codes "fine") found reach.fine
+  pub random : IsCount (codes "random") found reach.random
+  pub seed : IsWritten (codes "seed") found reach.seed
+
+pub record IsExplore (found : List Row) (explore : Explore) : Type 0 where
+  pub frames : IsWritten (codes "frames") found explore.frames
+  pub reach : IsReach found explore.reach
+  pub scripts : IsOption (codes "scripts") found explore.scripts
+  pub want : IsOption (codes "want") found explore.want
+  pub status : IsSigned (codes "status") found explore.status
+  pub image : first_of (codes "IMAGE") found ≡ Some explore.image.now
+  pub script : IsOption (codes "SCRIPT") found explore.script
 
 pub record IsMkfs (found : List Row) (mkfs : Mkfs) : Type 0 where
   pub size : IsWritten (codes "size") found mkfs.size
@@ -444,6 +515,7 @@ IsJob found (job.Trace trace) = (rows : List Row) × (found ≡ Some (codes "tra
 IsJob found (job.Gdb gdb) = (rows : List Row) × (found ≡ Some (codes "gdb", rows))
     × IsFlag (codes "init") rows false × IsGdb rows gdb
 IsJob found job.GdbInit = (rows : List Row) × (found ≡ Some (codes "gdb", rows)) × IsFlag (codes "init") rows true
+IsJob found (job.Explore explore) = (rows : List Row) × (found ≡ Some (codes "explore", rows)) × IsExplore rows explore
 IsJob found (job.Mkfs mkfs) = (rows : List Row) × (found ≡ Some (codes "mkfs", rows)) × IsMkfs rows mkfs
 IsJob found (job.Check check) = (rows : List Row) × (found ≡ Some (codes "check", rows)) × IsCheck rows check
 IsJob found (job.Ls ls) = (rows : List Row) × (found ≡ Some (codes "ls", rows)) × IsLs rows ls

@@ -2,15 +2,17 @@
 ghost use Rattle.std.specs.Prelude.{◌≡◌, ◌↔◌, IfOk, IfSome, IsTrue, Some, codes, false, fold, map, option_map};
 ghost use Rattle.std.specs.Prelude.{slice_get};
 ghost use Rattle.clap.specs.Words.{app_of, first_of, found_of, rows_of, rule_of, subcommand_of, subcommand_rows_of};
-ghost use Rattle.commandline.specs.Declarations.{AreFirst, DeclaresOwn, IsCount, IsGdb, IsJob, IsLines, IsPart, IsRun};
-ghost use Rattle.commandline.specs.Declarations.{IsTelling, IsWritten, Writes, declared, declared_by, declared_top};
+ghost use Rattle.commandline.specs.Asking.{asks, asks_more};
+ghost use Rattle.commandline.specs.Declarations.{AreFirst, DeclaresOwn, IsAmount, IsCount, IsGdb, IsJob, IsLines};
+ghost use Rattle.commandline.specs.Declarations.{IsPart, IsReach, IsRun, IsSigned, IsTelling, IsWritten, Writes, declared};
+ghost use Rattle.commandline.specs.Declarations.{declared_by, declared_top};
 ghost use Rattle.commandline.specs.Declarations.{flag_rule, last_rule, named_rule, option_rule, rule_given};
 ghost use Rattle.commandline.specs.Declarations.{with_declared};
 
 use crate::declarations::{COMMANDS, Declared, EXAMPLE, Given, Word};
 use crate::jobs::{
-    As, Asm, Check, Dump, Files, Flat, Gdb, Get, Job, Lines, Live, Ls, Migrate, Mkfs, Part, Play,
-    Put, Run, Telling, Trace,
+    As, Asm, Check, Dump, Explore, Files, Flat, Gdb, Get, Job, Lines, Live, Ls, Migrate, Mkfs,
+    Part, Play, Put, Reach, Run, Telling, Trace,
 };
 use clap::error::ErrorKind;
 use clap::{Arg, ArgAction, ArgMatches, Command, Error, value_parser};
@@ -69,6 +71,8 @@ fn arg<'a>(alloc: Global, word: &Word<'a>) -> Arg<'a>
         Given::Several(value) => {
             option(alloc, word, value).value_parser(value_parser!(u32).range(2..))
         }
+        Given::Amount(value) => option(alloc, word, value).value_parser(value_parser!(u32)),
+        Given::Signed(value) => option(alloc, word, value).value_parser(value_parser!(i32)),
         Given::Option(value) => option(alloc, word, value),
         Given::Short(letter) => option(alloc, word, "OUT").short(letter),
         Given::Each => placed(alloc, word).required(true).num_args(1..=8),
@@ -189,6 +193,36 @@ fn count_found<'a>(found: &ArgMatches<'a>, name: &str) -> Result<Option<NonZeroU
     match NonZeroU64::new(u64::from(number_of(text).ok_or(NoCount)?)) {
         Some(count) => Ok(Some(count)),
         None => Err(NoCount),
+    }
+}
+
+// What was found is no number.
+#[derive(Drop)]
+struct NoNumber;
+
+// The number that was found of this name, if any was.
+fn amount_found<'a>(found: &ArgMatches<'a>, name: &str) -> Result<Option<u32>, NoNumber>
+    ensures { IfOk result (IsAmount name.now (rows_of (found_of found.now))) }
+{
+    let Some(text) = option_found(found, name) else {
+        return Ok(None);
+    };
+    match number_of(text) {
+        Some(number) => Ok(Some(number)),
+        None => Err(NoNumber),
+    }
+}
+
+// The number with a sign that was found of this name, if any was.
+fn signed_found<'a>(found: &ArgMatches<'a>, name: &str) -> Result<Option<i32>, NoNumber>
+    ensures { IfOk result (IsSigned name.now (rows_of (found_of found.now))) }
+{
+    let Some(text) = option_found(found, name) else {
+        return Ok(None);
+    };
+    match text.parse::<i32>() {
+        Ok(number) => Ok(Some(number)),
+        Err(_) => Err(NoNumber),
     }
 }
 
@@ -412,6 +446,66 @@ fn gdb<'a>(found: &ArgMatches<'a>) -> Option<Job<'a>>
         return None;
     };
     Some(Job::Gdb(words))
+}
+
+// What bounds an exploration, by the words.
+fn reach<'a>(found: &ArgMatches<'a>) -> Option<Reach>
+    ensures { IfSome result (IsReach (rows_of (found_of found.now))) }
+{
+    let Ok(ticks) = amount_found(found, "ticks") else {
+        return None;
+    };
+    let Some(states) = number_found(found, "states") else {
+        return None;
+    };
+    let Ok(seconds) = count_found(found, "seconds") else {
+        return None;
+    };
+    let fine = flag_found(found, "fine");
+    let Ok(random) = count_found(found, "random") else {
+        return None;
+    };
+    let Some(seed) = number_found(found, "seed") else {
+        return None;
+    };
+    Some(Reach {
+        ticks,
+        states,
+        seconds,
+        fine,
+        random,
+        seed,
+    })
+}
+
+// What the words after `explore` ask for.
+fn explore<'a>(found: &ArgMatches<'a>) -> Option<Job<'a>>
+    ensures { IfSome result (IsJob (Some (codes "explore", rows_of (found_of found.now)))) }
+{
+    let Some(frames) = number_found(found, "frames") else {
+        return None;
+    };
+    let Some(reach) = reach(found) else {
+        return None;
+    };
+    let scripts = option_found(found, "scripts");
+    let want = option_found(found, "want");
+    let Ok(status) = signed_found(found, "status") else {
+        return None;
+    };
+    let Some(image) = word_found(found, "IMAGE") else {
+        return None;
+    };
+    let script = option_found(found, "SCRIPT");
+    Some(Job::Explore(Explore {
+        frames,
+        reach,
+        scripts,
+        want,
+        status,
+        image,
+        script,
+    }))
 }
 
 // What the words after `mkfs` ask for.
@@ -642,6 +736,16 @@ fn image_job<'a>(matches: &ArgMatches<'a>) -> Option<Job<'a>>
     file_job(matches)
 }
 
+// The job that was found, which explores, or doesn't boot a machine.
+fn search_job<'a>(matches: &ArgMatches<'a>) -> Option<Job<'a>>
+    ensures { IfSome result (IsJob (subcommand_rows_of matches.now)) }
+{
+    if let Some(found) = matches.subcommand_matches("explore") {
+        return explore(found);
+    }
+    image_job(matches)
+}
+
 // The job that was found.
 fn job_found<'a>(matches: &ArgMatches<'a>) -> Option<Job<'a>>
     ensures { IfSome result (IsJob (subcommand_rows_of matches.now)) }
@@ -664,7 +768,7 @@ fn job_found<'a>(matches: &ArgMatches<'a>) -> Option<Job<'a>>
     if let Some(found) = matches.subcommand_matches("gdb") {
         return gdb(found);
     }
-    image_job(matches)
+    search_job(matches)
 }
 
 // Whether a debugger's machine was found that has no image.
@@ -715,11 +819,10 @@ pub fn job<'a>(alloc: Global, words: &'a [&'a str]) -> Result<Job<'a>, Error>
     job_read(&mut command, words)
 }
 
-/// Whether the words ask for more on what is wrong, in a line after the usual one.
-pub fn explains(words: &[&str]) -> bool {
-    let Some((_program, words)) = words.split_first() else {
-        return false;
-    };
+// Whether the option is among these words, before any `--`.
+fn asks(words: &[&str]) -> bool
+    ensures { result ≡ asks words.now }
+{
     for word in words {
         if *word == "--" {
             return false;
@@ -729,4 +832,14 @@ pub fn explains(words: &[&str]) -> bool {
         }
     }
     false
+}
+
+/// Whether the words ask for more on what is wrong, in a line after the usual one.
+pub fn explains(words: &[&str]) -> bool
+    ensures { result ≡ asks_more words.now }
+{
+    match words {
+        [] => false,
+        [_program, words @ ..] => asks(words),
+    }
 }

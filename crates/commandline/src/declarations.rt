@@ -55,6 +55,10 @@ A long run tells on a terminal how far it is:
 
 xv6 run --progress disk.img script.txt
 
+A race shows in one order of events of thousands; each order of calls is tried, and the outcomes are printed:
+
+xv6 explore disk.img
+
 A play waits for the shell's prompt, for a text, and for idle and quiet machines, where a script counts steps:
 
     until prompt 10000000
@@ -98,6 +102,10 @@ pub(crate) enum Given<'a> {
     Count(&'a str),
     // As an option with a number from 2 on, that may be left out; help calls it so.
     Several(&'a str),
+    // As an option with a number, that may be left out; help calls it so.
+    Amount(&'a str),
+    // As an option with a number of 32 bits with a sign, that may be left out; help calls it so.
+    Signed(&'a str),
     // As an option that may be left out; help calls its value so.
     Option(&'a str),
     // As an option that has a letter, too; help calls its value OUT.
@@ -399,6 +407,62 @@ const GDB: [Word<'static>; 8] = [
     },
 ];
 
+const EXPLORE: [Word<'static>; 13] = [
+    FRAMES,
+    Word {
+        name: "ticks",
+        given: Given::Amount("K"),
+        help: "Tries at most K timer interrupts while a process runs; any number of them, if left out",
+    },
+    Word {
+        name: "states",
+        given: Given::Number("1000000"),
+        help: "Looks at N states at most",
+    },
+    Word {
+        name: "seconds",
+        given: Given::Count("S"),
+        help: "Takes S seconds at most",
+    },
+    Word {
+        name: "fine",
+        given: Given::Flag,
+        help: "Tries a timer interrupt before every instruction, not before calls and faults alone: the outcomes are the same",
+    },
+    Word {
+        name: "scripts",
+        given: Given::Option("DIR"),
+        help: "Writes the script of each outcome, DIR/1.script and so on, for `run`, `trace` and `gdb`",
+    },
+    Word {
+        name: "want",
+        given: Given::Option("FILE"),
+        help: "Wants the bytes of FILE on the console, and stops at the first outcome that differs",
+    },
+    Word {
+        name: "status",
+        given: Given::Signed("N"),
+        help: "Wants process 1 to end with status N (--status=-1), and stops at the first that differs",
+    },
+    Word {
+        name: "random",
+        given: Given::Count("N"),
+        help: "Where a bound was met, goes on with N runs whose timer interrupts are drawn",
+    },
+    Word {
+        name: "seed",
+        given: Given::Number("1"),
+        help: "What they are drawn by",
+    },
+    EXPLAIN,
+    BOOTED,
+    Word {
+        name: "SCRIPT",
+        given: Given::Last,
+        help: "Has what is typed where nobody is ready; its own steps and ticks aren't used",
+    },
+];
+
 const MKFS: [Word<'static>; 5] = [
     Word {
         name: "size",
@@ -569,7 +633,7 @@ const LIVE: [Word<'static>; 9] = [
     BOOTED,
 ];
 
-pub(crate) const COMMANDS: [Declared<'static>; 15] = [
+pub(crate) const COMMANDS: [Declared<'static>; 16] = [
     Declared {
         name: "flat",
         about: "Boots a flat program and runs a script of events",
@@ -644,6 +708,31 @@ xv6 gdb --init > lines.gdb
 Registers and memory can't be written: what is debugged is what `xv6 run disk.img script.txt` does.
 `monitor help` says what else there is: ps, when, stop-at and type.",
         words: &GDB,
+    },
+    Declared {
+        name: "explore",
+        about: "Tries every order of calls, and prints the different outcomes",
+        example: "\
+Example, of a program whose two processes count in one file:
+
+xv6 explore --scripts out counter.img
+
+    2 outcomes under all schedules: 645 states, 3 ends, 0.1 s
+      0 ticks   halt 1 InitEnded 2   2 ends   console \"\"   files 6c0f37cc   out/1.script
+      1 tick   halt 1 InitEnded 1   1 end   console \"\"   files 351a9f30   out/2.script
+    differ in: status; /n has \"2\", or \"1\"
+
+A timer interrupt may come before any instruction, but matters only by the calls before it: each order of calls is
+tried, with each order of interrupts and typed bytes. An outcome is what the console, process 1's status and the files
+are at the end, or who waits for whom for good. Its script has the fewest interrupts that lead to it:
+
+xv6 trace --turns counter.img out/2.script
+xv6 gdb counter.img out/2.script
+
+The exit status is 0 for one outcome under all schedules, 1 for several, or one that isn't wanted, and 3 where something
+wasn't looked at, which is printed: interrupts beyond --ticks, states beyond --states, time (uptime), a process that
+runs on without an end.",
+        words: &EXPLORE,
     },
     Declared {
         name: "mkfs",

@@ -19,6 +19,8 @@ pub enum Job<'a> {
     Gdb(Gdb<'a>),
     /// Prints what a debugger's own commands have to set before.
     GdbInit,
+    /// Boots a machine from a disk image and gives it its events in every order.
+    Explore(Explore<'a>),
     /// Makes a disk image.
     Mkfs(Mkfs<'a>),
     /// Checks a disk image.
@@ -166,6 +168,42 @@ pub struct Gdb<'a> {
     /// The name of the image's file.
     pub image: &'a str,
     /// The name of the script's file, where there is one.
+    pub script: Option<&'a str>,
+}
+
+/// How far an exploration goes.
+#[derive(Clone, Copy, PartialEq, Eq)]
+pub struct Reach {
+    /// How many timer interrupts come at most while a process runs, where that is bounded.
+    pub ticks: Option<u32>,
+    /// How many states are looked at, at most.
+    pub states: u32,
+    /// How many seconds it takes at most, where that is bounded.
+    pub seconds: Option<NonZeroU64>,
+    /// Whether a timer interrupt is tried before every instruction.
+    pub fine: bool,
+    /// How many runs with drawn interrupts follow where a bound was met, where any do.
+    pub random: Option<NonZeroU64>,
+    /// What they are drawn by.
+    pub seed: u32,
+}
+
+/// The words of the command `explore`.
+#[derive(Clone, Copy, PartialEq, Eq)]
+pub struct Explore<'a> {
+    /// How many frames the memory has.
+    pub frames: u32,
+    /// How far it goes.
+    pub reach: Reach,
+    /// The name of the directory to which the scripts are written, where they are.
+    pub scripts: Option<&'a str>,
+    /// The name of the file that has the bytes that are wanted on the console, where any are.
+    pub want: Option<&'a str>,
+    /// The status with which process 1 is to end, where one is wanted.
+    pub status: Option<i32>,
+    /// The name of the image's file.
+    pub image: &'a str,
+    /// The name of the file of the script that has what is typed, where anything is.
     pub script: Option<&'a str>,
 }
 

@@ -8,7 +8,7 @@ mod names;
 
 pub use command_line::{explains, job};
 pub use jobs::{
-    As, Asm, Check, Dump, Files, Flat, Gdb, Get, Job, Lines, Live, Ls, Migrate, Mkfs, Part, Play,
-    Put, Run, Telling, Trace,
+    As, Asm, Check, Dump, Explore, Files, Flat, Gdb, Get, Job, Lines, Live, Ls, Migrate, Mkfs,
+    Part, Play, Put, Reach, Run, Telling, Trace,
 };
 pub use names::{Names, names_of};

@@ -4,8 +4,8 @@
 pub mod perform;
 
 pub use commandline::{
-    As, Asm, Check, Dump, Files, Flat, Gdb, Get, Job, Lines, Live, Ls, Migrate, Mkfs, Part, Play,
-    Put, Run, Telling, Trace, explains, job,
+    As, Asm, Check, Dump, Explore, Files, Flat, Gdb, Get, Job, Lines, Live, Ls, Migrate, Mkfs,
+    Part, Play, Put, Reach, Run, Telling, Trace, explains, job,
 };
 pub use hosts::{Front, Host, HostFault, InUse, NoScreen, Screen, Why, refuse};
 pub use image_commands::{explain, explain_words};

@@ -120,6 +120,7 @@ fn perform_on<H: Host, S: Screen, W: Write, E: Write>(
         Job::Trace(words) => tracing::perform(alloc, words, host, meter, stdout, stderr),
         Job::Gdb(words) => gdb_command::perform(alloc, words, host, stdout, stderr),
         Job::GdbInit => gdb_command::print_init_lines(stdout, stderr),
+        Job::Explore(words) => explore_command::perform(alloc, words, host, stdout, stderr),
         Job::Get(words) => perform_quietly(openings::get(alloc, words, host, stdout), stderr),
         Job::Put(words) => perform_quietly(openings::put(alloc, words, host), stderr),
     }

@@ -1,5 +1,5 @@
 //! A record of events in memory, as the lines of a script.
-ghost use Rattle.std.specs.Prelude.{◌≡◌, ◌∷◌, [], Some, IfOk, IfSome};
+ghost use Rattle.std.specs.Prelude.{◌≡◌, ◌∷◌, [], Some, IfOk, IfSome, is_some, true};
 ghost use Rattle.events.specs.Records.{Records};
 ghost use Rattle.events.specs.Rows.{IsRow, row_events};
 ghost use Rattle.events.specs.Scripts.{IsScriptOf};
@@ -79,7 +79,8 @@ impl Transcript {
 
     /// The text of the script that has these events. An error says that memory ran out, now or before.
     pub fn text(&self, alloc: Global) -> Result<String, AllocError>
-        ensures { IfOk result (λ text. IfSome self.now (λ events. IsScriptOf text.bytes.items events)) }
+        ensures events { IfOk result (λ text. IfSome self.now (λ events. IsScriptOf text.bytes.items events)) }
+        ensures known { IfOk result (λ _. is_some self.now ≡ true) }
     {
         if self.is_lost {
             return Err(AllocError);

@@ -1,8 +1,8 @@
 -- What the steps of a look do: outcomes are told, and paths are opened.
 use Rattle.std.proofs.Common.{[], ap, arith, Bool, drop, false, get_or, inl, inr, length, List, None, Option, refl}
 use Rattle.std.proofs.Common.{Some}
-use Rattle.std.proofs.Common.{subst, sym, true, ℕ, ◌+◌, ◌++◌, ◌<◌, ◌∙◌, ◌∷◌, ◌≡◌, ◌≤◌}
-use Rattle.std.specs.Prelude.{if◌then◌else◌, is_none, is_some, not, ◌&&◌}
+use Rattle.std.proofs.Common.{subst, suc, sym, true, zero, ℕ, ◌+◌, ◌++◌, ◌<◌, ◌∙◌, ◌∷◌, ◌≡◌, ◌≤◌}
+use Rattle.std.specs.Prelude.{if◌then◌else◌, is_none, is_some, not, slice_set, ◌&&◌}
 use Rattle.orders.proofs.Free.{busy-one, busy-then, free-one, free-then}
 use Rattle.orders.proofs.Lists.{each-last, one-last, one-more}
 use Rattle.orders.proofs.Moves.{missed-same}
@@ -18,28 +18,78 @@ use Rattle.orders.specs.Free.{IsFree, IsNext, MayCome, is_idle, keys_left}
 use Rattle.orders.specs.Looked.{ComesTo, IsAtBound, IsCounted, IsKnownAt, IsLikeAt, IsTimeIdle, IsWay}
 use Rattle.orders.specs.Looked.{LeadAlike, Opens, OpensKey, OpensStep, OpensTick, TellsAt, TellsWaiting}
 use Rattle.orders.specs.Paths.{events_of, typed_in}
-use Rattle.orders.specs.Told.{Each, IsSound, IsTold, One}
+use Rattle.orders.specs.Told.{Each, IsSound, IsTold, One, run_more, runs_in, runs_more}
 use Rattle.orders.specs.Tried.{busy_in, busy_ticks, is_late, is_time_awaited}
 use Rattle.unixmodel.specs.declared.event.Event.{Event}
 use Rattle.unixmodel.specs.declared.event.Event.TheVariants.{Key, Step, Tick}
+use Rattle.unixmodel.specs.Calls.{After}
 use Rattle.unixmodel.specs.Run.{run}
 use Rattle.unixmodel.specs.State.{State, running}
 
 -- ---- outcomes
 
-pub tells-found : (s : State) (told : List Outcome) (es : List Event) → IsTold s told (run s es)
-    → TellsAt s told told es
-tells-found s told es h = record { told = h; kept = λ a on. on; sound = λ keys ending on. on }
+-- what holds of an outcome, however many runs ended so, still holds of one of them
+one-runs : (P : Outcome → Type 0) → ((o : Outcome) → P o → P (run_more o)) → (told : List Outcome) (n : ℕ)
+    → One P told → One P (runs_more told n)
+one-runs P more [] n h = absurd h
+one-runs P more (o ∷ told) zero (inl h) = inl (more o h)
+one-runs P more (o ∷ told) zero (inr h) = inr h
+one-runs P more (o ∷ told) (suc n) (inl h) = inl h
+one-runs P more (o ∷ told) (suc n) (inr h) = inr (one-runs P more told n h)
+
+each-runs : (P : Outcome → Type 0) → ((o : Outcome) → P o → P (run_more o)) → (told : List Outcome) (n : ℕ)
+    → Each P told → Each P (runs_more told n)
+each-runs P more [] n h = tt
+each-runs P more (o ∷ told) zero h = (more o h.0, h.1)
+each-runs P more (o ∷ told) (suc n) h = (h.0, each-runs P more told n h.1)
+
+counted-one : (told : List Outcome) (n : ℕ) → n < length told → runs_in (runs_more told n) ≡ runs_in told + 1
+counted-one [] n less = absurd (omega (arith, less))
+counted-one (o ∷ told) zero less = omega arith
+counted-one (o ∷ told) (suc n) less = (let rest = counted-one told n (omega (arith, less)) in omega (arith, rest))
+
+-- an outcome is put back with one run more
+pub counted-set : (told : List Outcome) (n : ℕ) (o : Outcome) (runs : ℕ) → n < length told → o ≡ get_or told n o
+    → runs ≡ o.runs + 1
+    → slice_set told n (record { path = o.path; status = o.status; runs = runs }) ≡ runs_more told n
+counted-set [] n o runs within at is = absurd (omega (arith, within))
+counted-set (q ∷ told) zero o runs within at is =
+    ap (λ m. let p : Outcome = record { path = o.path; status = o.status; runs = m } in p ∷ told) is
+    ∙ ap (λ (p : Outcome). run_more p ∷ told) at
+counted-set (q ∷ told) (suc n) o runs within at is =
+    ap (λ ps. q ∷ ps) (counted-set told n o runs (omega (arith, within)) at is)
+
+counted-last : (told : List Outcome) (o : Outcome) → runs_in (told ++ o ∷ []) ≡ runs_in told + o.runs
+counted-last [] o = omega arith
+counted-last (q ∷ told) o = (let rest = counted-last told o in omega (arith, rest))
+
+told-more : (s : State) (told : List Outcome) (n : ℕ) (a : After) → IsTold s told a → IsTold s (runs_more told n) a
+told-more s told n a h =
+    one-runs (λ (o : Outcome). ShowSame a (run s (events_of o.path))) (λ o on. on) told n h
+
+sound-more : (keys : List ℕ) (s : State) (o : Outcome) → IsSound keys s o → IsSound keys s (run_more o)
+sound-more keys s o h = record { ending = h.ending; status = h.status; runs = omega arith }
+
+pub tells-found : (s : State) (told : List Outcome) (n : ℕ) (es : List Event) → n < length told
+    → IsTold s told (run s es) → TellsAt s told (runs_more told n) es
+tells-found s told n es within h = record {
+  told = told-more s told n (run s es) h;
+  runs = counted-one told n within;
+  kept = told-more s told n;
+  sound = λ keys ending on. each-runs (IsSound keys s) (sound-more keys s) told n on;
+}
 
 pub tells-new : (s : State) (told : List Outcome) (es : List Event) (o : Outcome) → events_of o.path ≡ es
-    → (run s es).state.halted ≡ o.status → TellsAt s told (told ++ o ∷ []) es
-tells-new s told es o same status = record {
+    → (run s es).state.halted ≡ o.status → o.runs ≡ 1 → TellsAt s told (told ++ o ∷ []) es
+tells-new s told es o same status one = record {
   told = one-last (λ (q : Outcome). ShowSame (run s es) (run s (events_of q.path))) told o
       (subst (λ fs. ShowSame (run s es) (run s fs)) (sym same) (same-refl (run s es)));
+  runs = counted-last told o ∙ ap (λ n. runs_in told + n) one;
   kept = λ a on. one-more (λ (q : Outcome). ShowSame a (run s (events_of q.path))) told (o ∷ []) on;
   sound = λ keys ending on. each-last (IsSound keys s) told o on (record {
     ending = subst (λ fs. IsEnding keys s fs) (sym same) ending;
     status = ap (λ fs. (run s fs).state.halted) same ∙ status;
+    runs = omega (arith, one);
   });
 }
 

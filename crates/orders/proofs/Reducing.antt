@@ -293,16 +293,18 @@ record LeftNone (m : Missed) : Type 0 where
   late : m.late ≡ false
   alone : is_ticks_alone m ≡ true
 
-none-of : (t s u l : Bool) → not (t || s || u || l) ≡ true → (t ≡ false) × (l ≡ false) × (not (s || u) ≡ true)
-none-of true s u l h = absurd cc
-none-of false true u l h = absurd cc
-none-of false false true l h = absurd cc
-none-of false false false true h = absurd cc
-none-of false false false false h = (refl, refl, refl)
+none-of : (t s u l p : Bool) → not (t || s || u || l || p) ≡ true
+    → (t ≡ false) × (l ≡ false) × (not (s || u || p) ≡ true)
+none-of true s u l p h = absurd cc
+none-of false true u l p h = absurd cc
+none-of false false true l p h = absurd cc
+none-of false false false true p h = absurd cc
+none-of false false false false true h = absurd cc
+none-of false false false false false h = (refl, refl, refl)
 
 left-none : (m : Missed) → is_nothing m ≡ true → LeftNone m
 left-none m h =
-    let none = none-of m.ticks m.states m.uptime m.late h in
+    let none = none-of m.ticks m.states m.uptime m.late m.stopped h in
     record { ticks = none.0; late = none.1; alone = none.2 }
 
 -- nothing was left out

@@ -47,7 +47,7 @@ pub run-over : (xs ys : List Event) (s : State) (status : ℤ) → s.halted ≡ 
     → (run s xs).state.halted ≡ Some status → run s (xs ++ ys) ≡ run s xs
 run-over xs ys s status up ended = run-append xs ys s up ∙ ap (then_runs ys (run s xs)) ended
 
-run-one : (e : Event) (s : State) (r : Option ℤ) → (next s e).state.halted ≡ r → run s (e ∷ []) ≡ next s e
+pub run-one : (e : Event) (s : State) (r : Option ℤ) → (next s e).state.halted ≡ r → run s (e ∷ []) ≡ next s e
 unfolding run next
 run-one e s (Some status) is = rw is refl
 run-one e s None is = rw is

@@ -9,7 +9,7 @@ use Rattle.orders.specs.Ends.{AllWait, IsEnding, is_anyone_asleep}
 use Rattle.orders.specs.Free.{IsFree, MayCome, keys_left}
 use Rattle.orders.specs.Missed.{is_ticks_alone}
 use Rattle.orders.specs.Paths.{events_of, steps, typed_in}
-use Rattle.orders.specs.Told.{Each, IsSound, IsTold, One}
+use Rattle.orders.specs.Told.{Each, IsSound, IsTold, One, runs_in}
 use Rattle.orders.specs.Tried.{IsPromptIn, busy_in, busy_ticks}
 use Rattle.schedules.specs.Alike.{Alike, HasClock, asks_time}
 use Rattle.schedules.specs.Schedules.{ComputesFor, after_steps, computes}
@@ -138,9 +138,10 @@ pub record KeepsMissed (before after : Missed) : Type 0 where
   pub late : before.late ≡ true → after.late ≡ true
   pub alone : is_ticks_alone after ≡ true → is_ticks_alone before ≡ true
 
--- what a list of events leads to is told, if it is an end
+-- what a list of events leads to is among the outcomes, if it is an end, and one more run ended
 pub record TellsAt (s : State) (old new : List Outcome) (es : List Event) : Type 0 where
   pub told : IsTold s new (run s es)
+  pub runs : runs_in new ≡ runs_in old + 1
   pub kept : KeepsTold s old new
   pub sound : (keys : List ℕ) → IsEnding keys s es → AreSound keys s old → AreSound keys s new
 

@@ -1,5 +1,5 @@
 -- What a search tells: outcomes, each with the events that lead to it; and what it means that these are all.
-use Rattle.std.specs.Prelude.{List, [], ℕ, ⊤, ◌∷◌, ◌≡◌, ◌⊎◌}
+use Rattle.std.specs.Prelude.{List, [], suc, zero, ℕ, ⊤, ◌+◌, ◌<◌, ◌∷◌, ◌≡◌, ◌⊎◌}
 use Rattle.orders.specs.declared.bounds.Bounds.{Bounds}
 use Rattle.orders.specs.declared.bounds.Missed.{Missed}
 use Rattle.orders.specs.declared.told.Outcome.{Outcome}
@@ -21,12 +21,29 @@ abbrev pub Each : {X : Type 0} → (X → Type 0) → List X → Type 0
 Each P [] = ⊤
 Each P (x ∷ xs) = P x × Each P xs
 
+-- ---- how many runs ended so
+
+abbrev pub run_more : Outcome → Outcome
+run_more o = record o { runs = o.runs + 1 }
+
+-- one more run ended with the outcome of this number
+abbrev pub runs_more : List Outcome → ℕ → List Outcome
+runs_more [] n = []
+runs_more (o ∷ told) zero = run_more o ∷ told
+runs_more (o ∷ told) (suc n) = o ∷ runs_more told n
+
+-- how many runs ended
+abbrev pub runs_in : List Outcome → ℕ
+runs_in [] = 0
+runs_in (o ∷ told) = o.runs + runs_in told
+
 -- ---- soundness
 
--- the outcome's events may come, at their end it is over, and process 1 has ended with this status or not
+-- the outcome's events may come, at their end it is over, and process 1 has ended with this status or not; it was seen
 pub record IsSound (keys : List ℕ) (s : State) (o : Outcome) : Type 0 where
   pub ending : IsEnding keys s (events_of o.path)
   pub status : (run s (events_of o.path)).state.halted ≡ o.status
+  pub runs : 0 < o.runs
 
 -- ---- completeness
 

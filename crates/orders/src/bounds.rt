@@ -17,6 +17,14 @@ pub struct Bounds {
     pub spin: u32,
 }
 
+/// What is typed, and the bounds.
+#[derive(Clone, Copy)]
+pub struct Task<'a> {
+    /// The bytes that are typed where nobody is ready.
+    pub keys: &'a [u8],
+    pub bounds: Bounds,
+}
+
 /// What a search left out.
 #[derive(Clone, Copy, PartialEq, Eq, Debug)]
 pub struct Missed {
@@ -28,6 +36,8 @@ pub struct Missed {
     pub uptime: bool,
     /// Timer interrupts where no process runs, some sleep, and all of these sleeps are over.
     pub late: bool,
+    /// What was open when the search was stopped.
+    pub stopped: bool,
 }
 
 impl Missed {
@@ -40,6 +50,7 @@ impl Missed {
             states: false,
             uptime: false,
             late: false,
+            stopped: false,
         }
     }
 
@@ -47,7 +58,7 @@ impl Missed {
     pub fn is_nothing(&self) -> bool
         ensures { result ≡ is_nothing self.now }
     {
-        !(self.ticks || self.states || self.uptime || self.late)
+        !(self.ticks || self.states || self.uptime || self.late || self.stopped)
     }
 }
 
@@ -56,7 +67,7 @@ impl Missed {
 pub enum Trouble {
     #[error("no memory")]
     NoMemory,
-    #[error("a list of events is too long")]
+    #[error("there are too many events, states, or runs")]
     TooLong,
     #[error("the machine failed")]
     Machine,

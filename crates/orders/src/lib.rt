@@ -8,13 +8,15 @@
 
 mod bounds;
 mod paths;
+mod progress;
 mod search;
 mod seen;
 mod told;
 mod walker;
 
-pub use bounds::{Bounds, Missed, Trouble};
+pub use bounds::{Bounds, Missed, Task, Trouble};
 pub use paths::{Interrupt, Path, Piece};
+pub use progress::{Progress, Standing, Unwatched};
 pub use search::{Found, find_outcomes};
 pub use told::Outcome;
 pub use walker::Walker;

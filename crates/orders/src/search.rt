@@ -1,5 +1,5 @@
 //! The search.
-ghost use Rattle.std.specs.Prelude.{◌≡◌, ◌∷◌, [], List, ℕ, IfOk, IfSome, None, OnOk, is_some, true};
+ghost use Rattle.std.specs.Prelude.{◌≡◌, ◌<◌, ◌∷◌, [], List, ℕ, IfOk, IfSome, None, OnOk, is_some, length, true};
 ghost use Rattle.orders.specs.Ends.{AllWait, ShowSame};
 ghost use Rattle.orders.specs.Free.{keys_left};
 ghost use Rattle.orders.specs.Looked.{ComesTo, IsAtBound, IsGoing, IsKnownAt, IsLikeAt, NotesTime};
@@ -12,10 +12,11 @@ ghost use Rattle.unixmodel.specs.Run.{run};
 ghost use Rattle.unixmodel.specs.State.{State, running};
 ghost use Rattle.orders.specs.declared.bounds.Bounds.{Bounds};
 
-use crate::bounds::{Bounds, Missed, Trouble};
+use crate::bounds::{Bounds, Missed, Task, Trouble};
 use crate::paths::Path;
+use crate::progress::{Progress, Standing};
 use crate::seen::Seen;
-use crate::told::Outcome;
+use crate::told::{Outcome, count_run};
 use crate::walker::Walker;
 use std::alloc::Global;
 use std::collections::VecDeque;
@@ -24,18 +25,9 @@ use std::collections::VecDeque;
 #[derive(Drop)]
 pub struct Found {
     pub outcomes: Vec<Outcome>,
-    /// How many runs that were looked at ended with each outcome.
-    pub runs: Vec<u64>,
     /// How many states were looked at.
     pub states: usize,
     pub missed: Missed,
-}
-
-// The outcomes so far.
-#[derive(Drop)]
-struct Told {
-    outcomes: Vec<Outcome>,
-    runs: Vec<u64>,
 }
 
 // Whether an outcome is what the walker shows, of which process 1 has this status, if it has ended.
@@ -71,6 +63,7 @@ fn find_outcome<W: Walker>(
     requires status { (W.reached walker.old).state.halted ≡ status }
     ensures told { IfOk result
         (λ found. IfSome found (λ _. IsTold (W.start walker.old) outcomes.now (W.reached walker.old))) }
+    ensures within { IfOk result (λ found. IfSome found (λ number. number < length outcomes.now)) }
     ensures start { W.start walker.new ≡ W.start walker.old }
     ensures other_start { W.start other.new ≡ W.start other.old }
     ensures reached { OnOk result (W.reached walker.new ≡ W.reached walker.old) }
@@ -83,16 +76,9 @@ fn find_outcome<W: Walker>(
     Ok(None)
 }
 
-// One more run ended with an outcome.
-fn count_run(runs: &mut Vec<u64>, number: usize) {
-    if let Some(count) = runs.get_mut(number) {
-        *count = count.saturating_add(1);
-    }
-}
-
 // Tells what a walker shows that came to the end of a path: it is an outcome that was told, or a new one.
 fn tell<W: Walker>(
-    told: &mut Told,
+    told: &mut Vec<Outcome>,
     walker: &mut W,
     other: &mut W,
     path: &Path,
@@ -101,19 +87,21 @@ fn tell<W: Walker>(
     requires start { W.start other.old ≡ W.start walker.old }
     requires reached { W.reached walker.old ≡ run (W.start walker.old) (events_of path.now) }
     requires status { (W.reached walker.old).state.halted ≡ status }
-    ensures told { OnOk result (TellsAt (W.start walker.old) told.old.outcomes.items told.new.outcomes.items
+    ensures told { OnOk result (TellsAt (W.start walker.old) told.old.items told.new.items
         (events_of path.now)) }
     ensures start { W.start walker.new ≡ W.start walker.old }
     ensures other_start { W.start other.new ≡ W.start other.old }
     ensures reached { OnOk result (W.reached walker.new ≡ W.reached walker.old) }
 {
-    if let Some(number) = find_outcome(told.outcomes.as_slice(), walker, other, status)? {
-        count_run(&mut told.runs, number);
-        return Ok(());
+    if let Some(number) = find_outcome(told.as_slice(), walker, other, status)? {
+        return count_run(told, number);
     }
     let path = path.copy()?;
-    told.runs.push(1)?;
-    told.outcomes.push(Outcome { path, status })?;
+    told.push(Outcome {
+        path,
+        status,
+        runs: 1,
+    })?;
     Ok(())
 }
 
@@ -198,7 +186,7 @@ fn is_waiting<W: Walker>(walker: &W, keys: &[u8], path: &Path) -> bool
 
 // Tells what a walker came to at the end of a path, where all wait and nothing is left to type.
 fn tell_waiting<W: Walker>(
-    told: &mut Told,
+    told: &mut Vec<Outcome>,
     walker: &mut W,
     other: &mut W,
     keys: &[u8],
@@ -207,8 +195,8 @@ fn tell_waiting<W: Walker>(
     requires start { W.start other.old ≡ W.start walker.old }
     requires reached { W.reached walker.old ≡ run (W.start walker.old) (events_of path.now) }
     requires goes { (W.reached walker.old).state.halted ≡ None }
-    ensures told { OnOk result (TellsWaiting keys.now (W.start walker.old) told.old.outcomes.items
-        told.new.outcomes.items (events_of path.now)) }
+    ensures told { OnOk result (TellsWaiting keys.now (W.start walker.old) told.old.items
+        told.new.items (events_of path.now)) }
     ensures start { W.start walker.new ≡ W.start walker.old }
     ensures other_start { W.start other.new ≡ W.start other.old }
     ensures reached { OnOk result (W.reached walker.new ≡ W.reached walker.old) }
@@ -329,15 +317,8 @@ fn open_step(todo: &mut VecDeque<Path>, path: &Path) -> Result<(), Trouble>
 struct Search {
     todo: VecDeque<Path>,
     seen: Seen,
-    told: Told,
+    told: Vec<Outcome>,
     missed: Missed,
-}
-
-// What is typed, and the bounds.
-#[derive(Clone, Copy)]
-struct Task<'a> {
-    keys: &'a [u8],
-    bounds: &'a Bounds,
 }
 
 // Where a path leads, and a digest of that.
@@ -359,10 +340,10 @@ fn look<W: Walker>(
     requires start { W.start other.old ≡ W.start walker.old }
     requires reached { W.reached walker.old ≡ run (W.start walker.old) (events_of place.path) }
     requires goes { (W.reached walker.old).state.halted ≡ None }
-    requires going { IsGoing task.bounds.now task.keys.now (W.start walker.old) search.old.seen.paths.items
-        (place.path ∷ search.old.todo.items) search.old.told.outcomes.items search.old.missed }
-    ensures going { OnOk result (IsGoing task.entry.bounds.now task.entry.keys.now (W.start walker.old)
-        search.new.seen.paths.items search.new.todo.items search.new.told.outcomes.items search.new.missed) }
+    requires going { IsGoing task.bounds task.keys.now (W.start walker.old) search.old.seen.paths.items
+        (place.path ∷ search.old.todo.items) search.old.told.items search.old.missed }
+    ensures going { OnOk result (IsGoing task.entry.bounds task.entry.keys.now (W.start walker.old)
+        search.new.seen.paths.items search.new.todo.items search.new.told.items search.new.missed) }
     ensures start { W.start walker.new ≡ W.start walker.old }
     ensures other_start { W.start other.new ≡ W.start other.old }
 {
@@ -376,7 +357,7 @@ fn look<W: Walker>(
         &mut search.todo,
         &mut search.missed,
         walker,
-        task.bounds,
+        &task.bounds,
         &path,
     )?;
     open_step(&mut search.todo, &path)?;
@@ -417,10 +398,10 @@ fn meet<W: Walker>(
     requires start { W.start other.old ≡ W.start walker.old }
     requires reached { W.reached walker.old ≡ run (W.start walker.old) (events_of path) }
     requires goes { (W.reached walker.old).state.halted ≡ None }
-    requires going { IsGoing task.bounds.now task.keys.now (W.start walker.old) search.old.seen.paths.items
-        (path ∷ search.old.todo.items) search.old.told.outcomes.items search.old.missed }
-    ensures going { OnOk result (IsGoing task.entry.bounds.now task.entry.keys.now (W.start walker.old)
-        search.new.seen.paths.items search.new.todo.items search.new.told.outcomes.items search.new.missed) }
+    requires going { IsGoing task.bounds task.keys.now (W.start walker.old) search.old.seen.paths.items
+        (path ∷ search.old.todo.items) search.old.told.items search.old.missed }
+    ensures going { OnOk result (IsGoing task.entry.bounds task.entry.keys.now (W.start walker.old)
+        search.new.seen.paths.items search.new.todo.items search.new.told.items search.new.missed) }
     ensures start { W.start walker.new ≡ W.start walker.old }
     ensures other_start { W.start other.new ≡ W.start other.old }
 {
@@ -445,10 +426,10 @@ fn visit<W: Walker>(
 ) -> Result<(), Trouble>
     requires up { (W.start walker.old).halted ≡ None }
     requires start { W.start other.old ≡ W.start walker.old }
-    requires going { IsGoing task.bounds.now task.keys.now (W.start walker.old) search.old.seen.paths.items
-        (path ∷ search.old.todo.items) search.old.told.outcomes.items search.old.missed }
-    ensures going { OnOk result (IsGoing task.entry.bounds.now task.entry.keys.now (W.start walker.old)
-        search.new.seen.paths.items search.new.todo.items search.new.told.outcomes.items search.new.missed) }
+    requires going { IsGoing task.bounds task.keys.now (W.start walker.old) search.old.seen.paths.items
+        (path ∷ search.old.todo.items) search.old.told.items search.old.missed }
+    ensures going { OnOk result (IsGoing task.entry.bounds task.entry.keys.now (W.start walker.old)
+        search.new.seen.paths.items search.new.todo.items search.new.told.items search.new.missed) }
     ensures start { W.start walker.new ≡ W.start walker.old }
     ensures other_start { W.start other.new ≡ W.start other.old }
 {
@@ -460,6 +441,38 @@ fn visit<W: Walker>(
     meet(search, walker, other, task, there)
 }
 
+// Goes to where a walker began. Process 1 had not ended there.
+fn begin<W: Walker>(alloc: Global, walker: &mut W) -> Result<(), Trouble>
+    ensures up { OnOk result ((W.start walker.old).halted ≡ None) }
+    ensures clock { OnOk result (HasClock (W.start walker.old)) }
+    ensures start { W.start walker.new ≡ W.start walker.old }
+{
+    let status = walker.go(&Path::new(alloc))?;
+    if status.is_some() {
+        return Err(Trouble::Machine);
+    }
+    walker.has_clock();
+    Ok(())
+}
+
+// How far a search is.
+fn standing(search: &Search) -> Standing<'_>
+    ensures outcomes { result.outcomes.now ≡ search.now.told.items }
+    ensures states { result.states ≡ length search.now.seen.paths.items }
+    ensures waiting { result.waiting ≡ length search.now.todo.items }
+{
+    let ticks = match search.todo.front() {
+        Some(path) => path.busy,
+        None => 0,
+    };
+    Standing {
+        outcomes: search.told.as_slice(),
+        states: search.seen.paths.len(),
+        waiting: search.todo.len(),
+        ticks,
+    }
+}
+
 // What was left out, with what is still open.
 fn with_rest(todo: &VecDeque<Path>, missed: Missed) -> Missed
     ensures missed { is_ticks_alone result ≡ true → result ≡ missed }
@@ -469,54 +482,57 @@ fn with_rest(todo: &VecDeque<Path>, missed: Missed) -> Missed
         return missed;
     }
     Missed {
-        states: true,
+        stopped: true,
         ..missed
     }
 }
 
-/// Goes along all orders of events from where two walkers began, with these bytes typed where nobody is ready, and
-/// looks at each state once. Each outcome is what its events lead to. Where nothing was left out these are all:
-/// whatever timer interrupts come, and wherever, a run at whose end process 1 has ended or all wait shows what one of
-/// the outcomes shows. Where timer interrupts alone were left out, so it is of the runs in which none of these come.
-pub fn find_outcomes<W: Walker>(
+/// Goes along all orders of events from where two walkers began, with bytes typed where nobody is ready, and looks at
+/// each state once. Each outcome is what its events lead to. Where nothing was left out these are all: whatever timer
+/// interrupts come, and wherever, a run at whose end process 1 has ended or all wait shows what one of the outcomes
+/// shows. Where timer interrupts alone were left out, so it is of the runs in which none of these come.
+///
+/// Where the search is stopped, what is open is left out. `Machine` where process 1 had ended before.
+pub fn find_outcomes<W: Walker, P: Progress>(
     alloc: Global,
     walker: &mut W,
     other: &mut W,
-    keys: &[u8],
-    bounds: &Bounds,
+    task: Task,
+    progress: &mut P,
 ) -> Result<Found, Trouble>
-    requires up { (W.start walker.old).halted ≡ None }
-    requires clock { HasClock (W.start walker.old) }
-    requires start { W.start other.old ≡ W.start walker.old }
-    ensures sound { IfOk result (λ found. Each (IsSound keys.now (W.start walker.old)) found.outcomes.items) }
+    requires { W.start other.old ≡ W.start walker.old }
+    ensures sound { IfOk result
+        (λ found. Each (IsSound task.entry.keys.now (W.start walker.old)) found.outcomes.items) }
     ensures complete { IfOk result (λ found. is_nothing found.missed ≡ true
-        → IsComplete keys.now (W.start walker.old) found.outcomes.items) }
-    ensures tried { IfOk result (λ found. is_ticks_alone found.missed ≡ true
-        → IsCompleteAsTried bounds.now found.missed keys.now (W.start walker.old) found.outcomes.items) }
+        → IsComplete task.entry.keys.now (W.start walker.old) found.outcomes.items) }
+    ensures tried { IfOk result (λ found. is_ticks_alone found.missed ≡ true → IsCompleteAsTried task.entry.bounds
+        found.missed task.entry.keys.now (W.start walker.old) found.outcomes.items) }
+    ensures start { OnOk result (W.start walker.new ≡ W.start walker.old) }
+    ensures other_start { OnOk result (W.start other.new ≡ W.start other.old) }
 {
+    begin(alloc, walker)?;
     schedules::alike_goes_on_alike();
     schedules::interrupts_before_calls_suffice();
     let mut search = Search {
         todo: VecDeque::new(alloc),
         seen: Seen::new(alloc),
-        told: Told {
-            outcomes: Vec::new(alloc),
-            runs: Vec::new(alloc),
-        },
+        told: Vec::new(alloc),
         missed: Missed::nothing(),
     };
     search.todo.push_back(Path::new(alloc))?;
     'path: for _ in 0..u64::MAX {
+        if !progress.goes_on(&standing(&search)) {
+            break 'path;
+        }
         let Some(path) = search.todo.pop_front() else {
             break 'path;
         };
-        visit(&mut search, walker, other, Task { keys, bounds }, path)?;
+        visit(&mut search, walker, other, task, path)?;
     }
     let missed = with_rest(&search.todo, search.missed);
     let Search { seen, told, .. } = search;
     Ok(Found {
-        outcomes: told.outcomes,
-        runs: told.runs,
+        outcomes: told,
         states: seen.paths.len(),
         missed,
     })

@@ -60,7 +60,7 @@ pub trait Walker {
 
     /// A number of the state without its clock, to find those that may be like it.
     fn digest(&mut self) -> Result<u64, Trouble>
-        ensures reached { reached self.new ≡ reached self.old }
+        ensures reached { OnOk result (reached self.new ≡ reached self.old) }
         ensures start { start self.new ≡ start self.old };
 
     /// Whether another one printed the same and came to a state that is alike: a yes is right.

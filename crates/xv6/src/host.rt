@@ -276,6 +276,18 @@ impl<'a, R: Files<File = File> + Clock + Input + Eprint + AllocGlobal> Host for 
         }
     }
 
+    fn make_folder(&mut self, name: &str) -> Result<(), HostFault> {
+        match fs::create_dir(self.rt, name) {
+            Err(error) if error.kind() == ErrorKind::AlreadyExists => Ok(()),
+            done => self.told(done),
+        }
+    }
+
+    fn milliseconds(&self) -> Option<u64> {
+        let now = self.rt.monotonic().ok()?;
+        u64::try_from(now.as_millis()).ok()
+    }
+
     fn why(&self) -> Why {
         match self.error {
             None => Why::Unknown,

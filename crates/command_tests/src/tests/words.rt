@@ -5,8 +5,8 @@ use crate::tests::{UNTOLD, expect_that};
 use clap::Error;
 use clap::error::ErrorKind;
 use commands::{
-    As, Asm, Check, Dump, Files, Flat, Gdb, Get, Job, Lines, Live, Ls, Migrate, Mkfs, Part, Play,
-    Put, Run, Telling, Trace, explains, job, refuse,
+    As, Asm, Check, Dump, Explore, Files, Flat, Gdb, Get, Job, Lines, Live, Ls, Migrate, Mkfs,
+    Part, Play, Put, Reach, Run, Telling, Trace, explains, job, refuse,
 };
 use std::num::NonZeroU64;
 use std::process::Abort;
@@ -145,6 +145,7 @@ static HELP: [(&str, &[&str]); 5] = [
             "play",
             "trace",
             "gdb",
+            "explore",
             "mkfs",
             "check",
             "ls",
@@ -459,6 +460,50 @@ fn expect_gdb_jobs(rt: &(impl Abort + AllocGlobal)) {
     expect_job(rt, "xv6 gdb --init", &Job::GdbInit);
 }
 
+fn expect_explore_jobs(rt: &(impl Abort + AllocGlobal)) {
+    let reach = Reach {
+        ticks: None,
+        states: 1_000_000,
+        seconds: None,
+        fine: false,
+        random: None,
+        seed: 1,
+    };
+    expect_job(
+        rt,
+        "xv6 explore b",
+        &Job::Explore(Explore {
+            frames: 256,
+            reach,
+            scripts: None,
+            want: None,
+            status: None,
+            image: "b",
+            script: None,
+        }),
+    );
+    expect_job(
+        rt,
+        "xv6 explore --ticks 0 --states 9 --seconds 3 --fine --random 7 --seed 0 --scripts c --want d --status=-1 b e",
+        &Job::Explore(Explore {
+            frames: 256,
+            reach: Reach {
+                ticks: Some(0),
+                states: 9,
+                seconds: NonZeroU64::new(3),
+                fine: true,
+                random: NonZeroU64::new(7),
+                seed: 0,
+            },
+            scripts: Some("c"),
+            want: Some("d"),
+            status: Some(-1),
+            image: "b",
+            script: Some("e"),
+        }),
+    );
+}
+
 fn expect_play_and_trace_jobs(rt: &(impl Abort + AllocGlobal)) {
     expect_job(
         rt,
@@ -503,6 +548,7 @@ fn expect_jobs(rt: &(impl Abort + AllocGlobal)) {
     expect_program_jobs(rt);
     expect_live_jobs(rt);
     expect_gdb_jobs(rt);
+    expect_explore_jobs(rt);
     expect_play_and_trace_jobs(rt);
 }
 

@@ -32,4 +32,4 @@ returns-in-Some-subcommand_matches-5 c =
     c.in-Some-subcommand_matches-5.ensures.rows c.gdb.ensures
 
 pub returns : goal.returns
-returns c = c.image_job.ensures
+returns c = c.search_job.ensures

@@ -7,6 +7,6 @@ abbrev pub invariant-path : goal.invariant-path
 invariant-path g l = record {
   start : g.W.Walker.start l.walker ≡ g.W.Walker.start l.fn.walker;
   other_start : g.W.Walker.start l.other ≡ g.W.Walker.start l.fn.walker;
-  going : IsGoing l.bounds l.keys (g.W.Walker.start l.fn.walker) l.search.seen.paths.items l.search.todo.items
-      l.search.told.outcomes.items l.search.missed;
+  going : IsGoing l.task.bounds l.task.keys.now (g.W.Walker.start l.fn.walker) l.search.seen.paths.items
+      l.search.todo.items l.search.told.items l.search.missed;
 }

@@ -19,10 +19,10 @@ returns-clause-going g c =
     rw (← c.requires.reached) c.note_time.ensures in
     let key : OpensKey c.args.task.keys.now s c.args.search.now.todo.items c.open_key.new.todo.items c.args.place.path =
     rw (← c.in_ok-tell_waiting.ensures.start) c.in_ok-open_key.ensures in
-    let tick : OpensTick c.args.task.bounds.now c.args.task.keys.now s c.open_key.new.todo.items
+    let tick : OpensTick c.args.task.bounds c.args.task.keys.now s c.open_key.new.todo.items
     c.open_tick.new.todo.items c.note_time.new.missed c.open_tick.new.missed c.args.place.path =
     rw (← c.in_ok-tell_waiting.ensures.start) (c.in_ok-open_tick.ensures c.args.task.keys.now) in
     rw c.in_ok-put.ensures
     (looks c.args.task.keys.now s c.args.place.path c.idle_tick_changes_nothing.ensures.idle c.requires.up goes clock
-    c.args.task.bounds.now _ _ _ _ _ _ _ _ _ _ c.requires.going notes c.in_ok-tell_waiting.ensures.told key tick
+    c.args.task.bounds _ _ _ _ _ _ _ _ _ _ c.requires.going notes c.in_ok-tell_waiting.ensures.told key tick
     (c.in_ok-open_step.ensures c.args.task.keys.now s))

@@ -17,11 +17,11 @@ returns-then-is_some-clause-going g c =
     let ended : is_some (run s (events_of c.args.path)).state.halted ≡ true =
     subst (λ (a : After). is_some a.state.halted ≡ true) c.in_ok-status.ensures.reached
     (ap is_some c.in_ok-status.ensures.status ∙ sym c.if-is_some.ensures) in
-    let tells : OnOk c.tell.result (TellsAt s c.args.search.now.told.outcomes.items c.tell.new.told.outcomes.items
+    let tells : OnOk c.tell.result (TellsAt s c.args.search.now.told.items c.tell.new.told.items
     (events_of c.args.path)) = rw (← c.in_ok-status.ensures.start) c.tell.ensures.told in
-    on_ok_weaker c.tell.result (going-ended c.args.task.bounds.now c.args.task.keys.now s c.requires.up c.args.path
-    c.args.search.now.seen.paths.items c.args.search.now.todo.items c.args.search.now.told.outcomes.items
-    c.args.search.now.missed c.requires.going c.tell.new.told.outcomes.items ended) tells
+    on_ok_weaker c.tell.result (going-ended c.args.task.bounds c.args.task.keys.now s c.requires.up c.args.path
+    c.args.search.now.seen.paths.items c.args.search.now.todo.items c.args.search.now.told.items
+    c.args.search.now.missed c.requires.going c.tell.new.told.items ended) tells
 
 -- it hasn't
 pub meet-requires : goal.meet-requires
@@ -34,7 +34,7 @@ meet-requires g c =
     let goes : (run s es).state.halted ≡ None =
     subst (λ (a : After). a.state.halted ≡ None) c.in_ok-status.ensures.reached
     (c.in_ok-status.ensures.status ∙ none-some _ (sym c.if-is_some.ensures)) in
-    let comes : ComesTo c.args.task.bounds.now.spin s es (events_of there) =
+    let comes : ComesTo c.args.task.bounds.spin s es (events_of there) =
     rw (← c.in_ok-status.ensures.start) c.in_ok-there.ensures.comes in
     let reached : g.W.Walker.reached c.come_to_call.new.walker ≡ run s (events_of there) =
     c.in_ok-there.ensures.reached ∙ ap (λ t. run t (events_of there)) c.in_ok-status.ensures.start in
@@ -43,8 +43,8 @@ meet-requires g c =
       start = c.requires.start ∙ sym start;
       reached = reached ∙ ap (λ t. run t (events_of there)) (sym start);
       goes = ap (λ (a : After). a.state.halted) reached
-          ∙ comes-halted s c.requires.up c.args.task.bounds.now.spin es (events_of there) comes ∙ goes;
-      going = rw start (going-onward c.args.task.bounds.now c.args.task.keys.now s c.requires.up c.args.path
-          c.args.search.now.seen.paths.items c.args.search.now.todo.items c.args.search.now.told.outcomes.items
+          ∙ comes-halted s c.requires.up c.args.task.bounds.spin es (events_of there) comes ∙ goes;
+      going = rw start (going-onward c.args.task.bounds c.args.task.keys.now s c.requires.up c.args.path
+          c.args.search.now.seen.paths.items c.args.search.now.todo.items c.args.search.now.told.items
           c.args.search.now.missed c.requires.going there goes comes c.in_ok-there.ensures.busy);
     }

@@ -1,0 +1,171 @@
+//! Stored explorations of small programs.
+use crate::tests::expect_that;
+use crate::tests::runs::{INIT, with_image};
+use crate::tests::telling::expect_parts;
+use commands::perform::perform;
+use commands::{Explore, Job, Reach};
+use std::process::Abort;
+
+// Ends by a call.
+const ENDS: &str = "    li a0, 3\n li a7, 2\n ecall\n";
+
+// Runs on for ever.
+const SPINS: &str = "start: j start\n";
+
+// Ends with the count of ticks.
+const ASKS: &str = "    li a7, 14\n ecall\n li a7, 2\n ecall\n";
+
+// Reads an empty pipe, whose other end it holds itself.
+const WAITS: &str = "\
+    la a0, ends\n li a7, 4\n ecall\n la a1, ends\n lw a0, 0(a1)\n li a2, 1\n li a7, 5\n ecall\nends: .zero 8\n";
+
+// Makes two children, and ends with the status of the one that `wait` returns first.
+const RACES: &str = "\
+    li a7, 1\n ecall\n beq a0, zero, one\n li a7, 1\n ecall\n beq a0, zero, two\n\
+    la a0, status\n li a7, 3\n ecall\n la a1, status\n lw a0, 0(a1)\n li a7, 2\n ecall\n\
+    one: li a0, 1\n li a7, 2\n ecall\n two: li a0, 2\n li a7, 2\n ecall\nstatus: .zero 8\n";
+
+// A program, how far its exploration goes, which status is wanted, what is printed among other things, and the status
+// to exit with.
+struct Row {
+    text: &'static str,
+    ticks: Option<u32>,
+    states: u32,
+    wanted: Option<i32>,
+    parts: &'static [&'static str],
+    status: u8,
+}
+
+static ROWS: [Row; 8] = [
+    Row {
+        text: ENDS,
+        ticks: None,
+        states: 1000,
+        wanted: None,
+        parts: &[
+            "1 outcome under all schedules: ",
+            "  0 ticks   halt 1 InitEnded 3   ",
+        ],
+        status: 0,
+    },
+    Row {
+        text: ENDS,
+        ticks: None,
+        states: 1000,
+        wanted: Some(4),
+        parts: &["not the wanted outcome: 1, by the script\nstep 4\n"],
+        status: 1,
+    },
+    Row {
+        text: RACES,
+        ticks: None,
+        states: 1000,
+        wanted: None,
+        parts: &[
+            "2 outcomes under all schedules: ",
+            "   halt 1 InitEnded 1   ",
+            "   halt 1 InitEnded 2   ",
+            "\ndiffer in: status\n",
+        ],
+        status: 1,
+    },
+    Row {
+        text: RACES,
+        ticks: None,
+        states: 3,
+        wanted: None,
+        parts: &[
+            " under the schedules that were tried: ",
+            "\nnot tried: what follows more than 3 states (--states)\n",
+        ],
+        status: 3,
+    },
+    Row {
+        text: RACES,
+        ticks: Some(0),
+        states: 1000,
+        wanted: None,
+        parts: &[
+            "1 outcome under the schedules that were tried: ",
+            "\nnot tried: more than 0 ticks while a process runs (--ticks)\n",
+        ],
+        status: 3,
+    },
+    Row {
+        text: SPINS,
+        ticks: None,
+        states: 1000,
+        wanted: None,
+        parts: &[
+            "0 outcomes under the schedules that were tried: ",
+            "\npid 1 may run on for ever at pc 0x0: such a run has no outcome\n",
+        ],
+        status: 3,
+    },
+    Row {
+        text: ASKS,
+        ticks: None,
+        states: 20,
+        wanted: None,
+        parts: &[
+            " under the schedules that were tried: ",
+            "\nnot tried: every time at which a process may call uptime\n",
+        ],
+        status: 3,
+    },
+    Row {
+        text: WAITS,
+        ticks: None,
+        states: 1000,
+        wanted: None,
+        parts: &[
+            "1 outcome under all schedules: ",
+            "  0 ticks   deadlock   ",
+            "\n    pid 1 (/init) reads a pipe whose write end it itself holds\n",
+        ],
+        status: 0,
+    },
+];
+
+// The job of a row.
+fn job_of(row: &Row) -> Job<'static> {
+    Job::Explore(Explore {
+        frames: 64,
+        reach: Reach {
+            ticks: row.ticks,
+            states: row.states,
+            seconds: None,
+            fine: false,
+            random: None,
+            seed: 1,
+        },
+        scripts: None,
+        want: None,
+        status: row.wanted,
+        image: "image",
+        script: None,
+    })
+}
+
+// Explores a row's program.
+fn expect_explored(rt: &(impl Abort + AllocGlobal), row: &Row) {
+    let mut files = with_image(rt, row.text, INIT, 64);
+    let mut out = Vec::new(rt.alloc());
+    let mut err = Vec::new(rt.alloc());
+    let job = job_of(row);
+    let ended = perform(rt.alloc(), &job, &mut files, &mut out, &mut err);
+    let name = ("an exploration", row.text);
+    expect_that(rt, name, "the status", ended == row.status);
+    expect_parts(rt, name, out.as_slice(), row.parts);
+}
+
+fn expect_all_explored(rt: &(impl Abort + AllocGlobal)) {
+    for row in &ROWS {
+        expect_explored(rt, row);
+    }
+}
+
+#[test]
+fn programs_are_explored(rt: HostRuntime) {
+    expect_all_explored(&rt);
+}

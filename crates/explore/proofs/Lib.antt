@@ -1,0 +1,3 @@
+pub mod Walking
+pub mod Looking
+pub mod Comparing

@@ -1,0 +1,18 @@
+use Rattle.std.proofs.Common.{refl}
+use Rattle.explore.proofs.Walking.{same-reached, still-there}
+use Rattle.explore.proofs.along.AlongWalker.is_like.Goals as goal
+
+pub invariant_of-self-2 : goal.invariant_of-self-2
+invariant_of-self-2 g c = record {
+  is_there = still-there c.args.self.now.first.now c.args.self.now.machine c.matches.new.self
+      c.args.self.now.printed.inner.items c.take-path.result c.in-Ok.ensures.0.state c.in-Ok.ensures.0.still
+      (rw c.take-path.ensures.value c.args.self.now.is_there);
+}
+
+pub returns : goal.returns
+returns g c = record {
+  like = λ yes. record { bytes = c.if-not-prints_same.ensures refl; alike = c.in-Ok.ensures.2 yes };
+  reached = same-reached _ _ _ _ c.in-Ok.ensures.0.state refl;
+  start = refl;
+  other_start = refl;
+}

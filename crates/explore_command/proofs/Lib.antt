@@ -1,0 +1,4 @@
+mod Typed
+mod Recording
+mod Going
+mod Finding

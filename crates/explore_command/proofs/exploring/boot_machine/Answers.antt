@@ -1,0 +1,16 @@
+use Rattle.std.proofs.Common.{Some, subst, ◌∙◌, ◌≡◌}
+use Rattle.imagerules.proofs.Spelling.{image_of-blocks}
+use Rattle.machine.specs.Booted.{IsAccepted, start_from}
+use Rattle.explore_command.proofs.exploring.boot_machine.Goals as goal
+
+pub returns-in-Ok : goal.returns-in-Ok
+returns-in-Ok c whole =
+    let booted = c.in-Ok.ensures.booted in
+    let same = image_of-blocks c.in_ok-disk_of.field-0.bytes c.in_ok-disk_of.ensures.blocks
+    ∙ c.in_ok-disk_of.ensures.whole whole in
+    record {
+      files = booted.files;
+      accepted = subst (λ image. IsAccepted image booted.files) same booted.accepted;
+      starts = subst (λ image. start_from image booted.files c.args.words.now.frames ≡ Some c.in-Ok.machine.state) same
+          booted.starts;
+    }

@@ -1,0 +1,4 @@
+pub mod Keys
+pub mod Verdicts
+pub mod Explored
+pub mod Faults
