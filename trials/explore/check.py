@@ -222,7 +222,7 @@ def check_claims(program, scratch):
     if status != 0:
         fail("counter_locked is found to end otherwise:", told)
     told, status = explore(program, image, "--ticks", "0", "--random", "100")
-    if "new outcomes" not in told or CLAIM in told:
+    if "new outcome" not in told or CLAIM in told:
         fail("no runs are drawn:", told)
 
 

@@ -1,4 +1,7 @@
 //! The names of a file's addresses.
+ghost use Rattle.std.specs.Prelude.{IfOk, MatchOption, None};
+ghost use Rattle.addresses.specs.Named.{AreNamesOf, IsNameOf};
+ghost use Rattle.lines.specs.Found.{IsLineAt};
 
 use crate::name::Name;
 use lines::Lines;
@@ -15,7 +18,9 @@ pub struct Names<'a> {
 
 impl<'a> Names<'a> {
     /// The names that an ELF file has: of its symbol table, and of its line number programs.
-    pub fn of(alloc: Global, file: &'a [u8]) -> Result<Names<'a>, AllocError> {
+    pub fn of(alloc: Global, file: &'a [u8]) -> Result<Names<'a>, AllocError>
+        ensures { IfOk result (AreNamesOf file.now) }
+    {
         let sections = Sections::of(alloc, file)?;
         Ok(Names {
             symbols: Symbols::of(alloc, &sections)?,
@@ -24,11 +29,21 @@ impl<'a> Names<'a> {
     }
 
     /// What is known of an address; `None` if nothing is.
-    pub fn at(&self, address: u64) -> Option<Name<'a>> {
-        let name = Name {
-            place: self.symbols.at(address),
-            line: self.lines.at(address),
-        };
-        (name.place.is_some() || name.line.is_some()).then_some(name)
+    pub fn at(&self, address: u64) -> Option<Name<'a>>
+        ensures { MatchOption result (IsLineAt self.now.lines address None) (IsNameOf self.now address) }
+    {
+        match self.symbols.at(address) {
+            Some(place) => Some(Name {
+                place: Some(place),
+                line: self.lines.at(address),
+            }),
+            None => {
+                let line = self.lines.at(address)?;
+                Some(Name {
+                    place: None,
+                    line: Some(line),
+                })
+            }
+        }
     }
 }

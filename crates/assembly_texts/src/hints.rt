@@ -44,7 +44,7 @@ fn meant<'w>(
 }
 
 /// What is wrong, in words, and the word that was meant.
-pub fn words(alloc: Global, program: &Program, fault: &Fault) -> Result<String, AllocError> {
+pub(crate) fn words(alloc: Global, program: &Program, fault: &Fault) -> Result<String, AllocError> {
     let mut words = message(alloc, program, fault.wrong)?;
     if let Some(meant) = meant(alloc, program, fault)? {
         words.push_str(": did you mean ")?;

@@ -15,7 +15,7 @@ impl Fault for AllocError {
 }
 
 /// What a program's file says of an address, as `sum+0x10 (oops.c:4)`; no bytes where it says nothing.
-pub fn location_of(alloc: Global, file: &[u8], address: u64) -> Result<Vec<u8>, AllocError> {
+pub(crate) fn location_of(alloc: Global, file: &[u8], address: u64) -> Result<Vec<u8>, AllocError> {
     match Names::of(alloc, file)?.at(address) {
         Some(name) => Ok(format!(in alloc; "{name}")?.into_bytes()),
         None => Ok(Vec::new(alloc)),

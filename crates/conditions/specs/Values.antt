@@ -10,6 +10,8 @@ use Rattle.conditions.specs.declared.operation.Binary.TheVariants.{RemainderSign
 use Rattle.conditions.specs.declared.operation.Binary.TheVariants.{ShiftRightSigned, ShiftRightUnsigned, Subtract, Xor}
 use Rattle.conditions.specs.declared.operation.Unary.{Unary}
 use Rattle.conditions.specs.declared.operation.Unary.TheVariants.{Complement, IsZero, SignExtend, ZeroExtend}
+use Rattle.conditions.specs.declared.operation.Width.{Width}
+use Rattle.conditions.specs.declared.operation.Width.TheVariants.{Byte, Double, Half, Word}
 use Rattle.unixmodel.specs.Meaning.{flag, is_below, shift_signed}
 use Rattle.unixmodel.specs.Numbers.{field, minus, plus}
 
@@ -44,3 +46,10 @@ unary_value IsZero a = flag (a == 0)
 unary_value Complement a = 2 ^ 64 - 1 - a
 unary_value (SignExtend n) a = shift_signed ((a * 2 ^ (64 - n)) % 2 ^ 64) (64 - n)
 unary_value (ZeroExtend n) a = cut_to n a
+
+-- how many bytes are read
+abbrev pub count_of : Width → ℕ
+count_of Byte = 1
+count_of Half = 2
+count_of Word = 4
+count_of Double = 8

@@ -106,7 +106,7 @@ impl Stack {
 
 /// The number on the top where the expression ends; `None` where it is ill-formed, needs what isn't there, or takes
 /// more than `MOST_STEPS` operations.
-pub fn evaluate<S: Sight>(code: &[u8], sight: &S) -> Option<u64> {
+pub(crate) fn evaluate<S: Sight>(code: &[u8], sight: &S) -> Option<u64> {
     let mut stack = Stack {
         numbers: ArrayVec::new(),
     };

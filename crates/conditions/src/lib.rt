@@ -8,7 +8,7 @@ mod evaluation;
 mod operation;
 
 pub use decoding::{Decoded, decode};
-pub use evaluation::{MOST_STEPS, Sight, evaluate, holds};
+pub use evaluation::{MOST_STEPS, Sight, holds};
 pub use operation::{Binary, Operation, Unary, Width, apply_binary, apply_unary};
 
 #[cfg(test)]

@@ -1,6 +1,6 @@
 //! The operations, and what those on numbers give.
 ghost use Rattle.std.specs.Prelude.{◌≡◌};
-ghost use Rattle.conditions.specs.Values.{binary_value, unary_value};
+ghost use Rattle.conditions.specs.Values.{binary_value, count_of, unary_value};
 
 /// An operation on two numbers: the one below the top of the stack, and the top.
 #[derive(Clone, Copy, PartialEq, Eq, Debug)]
@@ -65,7 +65,9 @@ pub enum Operation {
 
 impl Width {
     /// How many bytes.
-    pub fn bytes(self) -> u8 {
+    pub fn bytes(self) -> u8
+        ensures { result ≡ count_of self }
+    {
         match self {
             Width::Byte => 1,
             Width::Half => 2,

@@ -1,6 +1,7 @@
 //! Expressions as gdb writes them, and rows of each operation.
 
-use crate::{Binary, Sight, Unary, Width, apply_binary, apply_unary, evaluate, holds};
+use crate::evaluation::evaluate;
+use crate::{Binary, Sight, Unary, Width, apply_binary, apply_unary, holds};
 
 // A process in which register n holds 1000 + n, and memory has at each address below 100 that address.
 struct Example;

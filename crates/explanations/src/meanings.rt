@@ -1,4 +1,6 @@
 //! What each line means.
+ghost use Rattle.std.specs.Prelude.{◌≡◌, map, option_map};
+ghost use Rattle.explanations.specs.Meanings.{among, meaning_of, of_image, own, row_of, stands};
 
 /// What a command works on: a line means after one command what it need not mean after another.
 #[derive(Clone, Copy, Debug, PartialEq, Eq)]
@@ -286,17 +288,21 @@ enum Place {
 }
 
 // Whether a line has a text there.
-fn stands(text: &str, place: Place, line: &str) -> bool {
+fn stands(text: &str, place: Place, line: &str) -> bool
+    ensures { result ≡ stands place text.now line.now }
+{
     match place {
         Place::Whole => line == text,
-        Place::Begin => line.starts_with(text),
-        Place::End => line.ends_with(text),
+        Place::Begin => line.as_bytes().starts_with(text.as_bytes()),
+        Place::End => line.as_bytes().ends_with(text.as_bytes()),
         Place::Within => line.contains(text),
     }
 }
 
 // What a line means that has one of these texts there.
-fn among(meanings: &[Meaning], place: Place, line: &str) -> Option<&'static str> {
+fn among(meanings: &[Meaning], place: Place, line: &str) -> Option<&'static str>
+    ensures { option_map (λ means. means.now) result ≡ among place line.now (map row_of meanings.now) }
+{
     for (text, means) in meanings {
         if stands(text, place, line) {
             return Some(*means);
@@ -306,7 +312,9 @@ fn among(meanings: &[Meaning], place: Place, line: &str) -> Option<&'static str>
 }
 
 // The lines of a topic alone.
-fn own(topic: Topic) -> &'static [Meaning] {
+fn own(topic: Topic) -> &'static [Meaning]
+    ensures { map row_of result.now ≡ own topic }
+{
     match topic {
         Topic::Machine => &MACHINE,
         Topic::Making => &MAKING,
@@ -319,7 +327,9 @@ fn own(topic: Topic) -> &'static [Meaning] {
 }
 
 // The lines of a topic that come of an image which is read first.
-fn of_image(topic: Topic) -> &'static [Meaning] {
+fn of_image(topic: Topic) -> &'static [Meaning]
+    ensures { map row_of result.now ≡ of_image topic }
+{
     match topic {
         Topic::Machine | Topic::Image | Topic::Files | Topic::Migration => &IMAGE,
         Topic::Making | Topic::Assembly | Topic::Program => &[],
@@ -327,7 +337,9 @@ fn of_image(topic: Topic) -> &'static [Meaning] {
 }
 
 /// What a line means that ends a command on this topic, and what to do.
-pub fn meaning(topic: Topic, line: &str) -> Option<&'static str> {
+pub fn meaning(topic: Topic, line: &str) -> Option<&'static str>
+    ensures { option_map (λ means. means.now) result ≡ meaning_of topic line.now }
+{
     among(own(topic), Place::Whole, line)
         .or(among(of_image(topic), Place::Whole, line))
         .or(among(&COMMON, Place::Whole, line))

@@ -1,4 +1,7 @@
 //! Standard error, of which the last line is kept.
+ghost use Rattle.std.specs.Prelude.{◌≡◌, []};
+ghost use Rattle.std.specs.Str.{IsUtf8};
+ghost use Rattle.explanations.specs.Notes.{kept};
 
 use std::io;
 use std::io::Write;
@@ -16,7 +19,10 @@ pub struct Noting<'a, E> {
 }
 
 impl<'a, E: Write> Noting<'a, E> {
-    pub fn new(inner: &'a mut E) -> Noting<'a, E> {
+    /// A writer to which nothing was written yet.
+    pub fn new(inner: &'a mut E) -> Noting<'a, E>
+        ensures { kept result.length result.line ≡ [] }
+    {
         Noting {
             inner,
             line: [0; LONGEST],
@@ -26,10 +32,14 @@ impl<'a, E: Write> Noting<'a, E> {
     }
 
     /// The last line without its end, as far as it is text of no more than 256 bytes.
-    pub fn line(&self) -> &str {
-        match self.line.get(..self.length) {
-            Some(line) => str::from_utf8(line).unwrap_or(""),
-            None => "",
+    pub fn line(&self) -> &str
+        ensures text { IsUtf8 (kept self.now.length self.now.line) → result.now ≡ kept self.now.length self.now.line }
+        ensures other { ¬ (IsUtf8 (kept self.now.length self.now.line)) → result.now ≡ [] }
+    {
+        let (line, _) = self.line.split_at(self.length.min(LONGEST));
+        match str::from_utf8(line) {
+            Ok(line) => line,
+            Err(_) => "",
         }
     }
 

@@ -1,9 +1,12 @@
 //! The words that texts and command lines are made of.
+ghost use Rattle.std.specs.Prelude.{◌≡◌, ◌==◌, IfSome, option_map};
+ghost use Rattle.std.specs.List.{before_first};
+ghost use Rattle.explanations.specs.Words.{IsLastWord, IsNumberBehind, after_line, line_of};
 
 /// The commands.
-pub const COMMANDS: [&str; 15] = [
-    "flat", "run", "live", "play", "trace", "gdb", "mkfs", "check", "ls", "get", "put", "migrate",
-    "asm", "as", "dump",
+pub const COMMANDS: [&str; 16] = [
+    "flat", "run", "live", "play", "trace", "gdb", "explore", "mkfs", "check", "ls", "get", "put",
+    "migrate", "asm", "as", "dump",
 ];
 
 /// What a line of a script begins with.
@@ -34,16 +37,34 @@ pub const ASSEMBLY: [&str; 76] = [
     ".zero", ".pad",
 ];
 
-/// The line of this number of a text, counted from 1, without its line feed alone.
-pub fn line_of(text: &str, number: usize) -> Option<&str> {
-    let mut counted: usize = 0;
-    for line in text.split('\n') {
-        counted = counted.saturating_add(1);
-        if counted == number {
-            return Some(line);
-        }
+// The text up to its first line feed, or all where it has none.
+fn first_line(text: &str) -> &str
+    ensures { result.now ≡ before_first (λ c. c == 10) text.now }
+{
+    match text.split_once('\n') {
+        Some((line, _)) => line,
+        None => text,
     }
-    None
+}
+
+// The text after its first line feed, if it has one.
+fn after_line(text: &str) -> Option<&str>
+    ensures { option_map (λ rest. rest.now) result ≡ after_line text.now }
+{
+    let (_, rest) = text.split_once('\n')?;
+    Some(rest)
+}
+
+/// The line of this number of a text, counted from 1, without its line feed alone.
+pub fn line_of(text: &str, number: usize) -> Option<&str>
+    ensures { option_map (λ line. line.now) result ≡ line_of number text.now }
+{
+    let before = number.checked_sub(1)?;
+    let mut rest = text;
+    for _line in 0..before {
+        rest = after_line(rest)?;
+    }
+    Some(first_line(rest))
 }
 
 /// The first word of a line that isn't a label.
@@ -56,18 +77,28 @@ pub fn first_word(line: &str) -> &str {
     ""
 }
 
+// What comes before the first colon, or all where there is none.
+fn before_colon(text: &str) -> &str
+    ensures { result.now ≡ before_first (λ c. c == 58) text.now }
+{
+    match text.split_once(':') {
+        Some((front, _)) => front,
+        None => text,
+    }
+}
+
 /// The number that follows a beginning of a line.
-pub fn number_behind(line: &str, beginning: &str) -> Option<usize> {
+pub fn number_behind(line: &str, beginning: &str) -> Option<usize>
+    ensures { IfSome result (IsNumberBehind line.now beginning.now) }
+{
     let rest = line.strip_prefix(beginning)?;
-    let digits = match rest.split_once(':') {
-        Some((digits, _)) => digits,
-        None => rest,
-    };
-    digits.parse().ok()
+    before_colon(rest).parse().ok()
 }
 
 /// The last word of a line.
-pub fn last_word(line: &str) -> &str {
+pub fn last_word(line: &str) -> &str
+    ensures { IsLastWord line.now result.now }
+{
     match line.rsplit_once(' ') {
         Some((_, word)) => word,
         None => line,

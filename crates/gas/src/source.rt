@@ -1,4 +1,6 @@
 //! What is read: files, and the statements that they have once files and macros are in place.
+ghost use Rattle.std.specs.Prelude.{◌≡◌, [], option_copied, option_map, slice_get, unwrap_or};
+ghost use Rattle.std.specs.String.{string_bytes};
 
 use crate::fault::Wrong;
 use std::alloc::{AllocError, Global};
@@ -78,7 +80,9 @@ impl Program {
     }
 
     /// The name of a file.
-    pub fn name(&self, file: usize) -> &str {
+    pub fn name(&self, file: usize) -> &str
+        ensures { result.now ≡ unwrap_or (option_map string_bytes (slice_get self.now.names.items file)) [] }
+    {
         match self.names.get(file) {
             Some(name) => name.as_str(),
             None => "",
@@ -86,7 +90,9 @@ impl Program {
     }
 
     /// A row.
-    pub fn row(&self, index: usize) -> Option<&Row> {
+    pub fn row(&self, index: usize) -> Option<&Row>
+        ensures { option_copied result ≡ slice_get self.now.rows.items index }
+    {
         self.rows.get(index)
     }
 }

@@ -1,1 +1,3 @@
 pub mod Alive
+pub mod Features
+pub mod Files

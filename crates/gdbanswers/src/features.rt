@@ -1,5 +1,6 @@
 //! What is supported.
-use gdbwire::cut;
+ghost use Rattle.std.specs.Prelude.{◌≡◌};
+ghost use Rattle.gdbanswers.specs.Features.{has_feature};
 
 /// The answer to `qSupported`: a packet has at most 0x4000 bytes, as many as `gdbwire::MOST`.
 pub const SUPPORTED: &[u8] =
@@ -11,16 +12,8 @@ exec-events+";
 pub const RESUME_KINDS: &[u8] = b"vCont;c;C;s;S;r";
 
 /// Whether a text of features with `;` between them has this one.
-pub fn has_feature(text: &[u8], feature: &[u8]) -> bool {
-    let mut rest = text;
-    for _feature in 0..text.len() {
-        let Some((first, more)) = cut(b';', rest) else {
-            return rest == feature;
-        };
-        if first == feature {
-            return true;
-        }
-        rest = more;
-    }
-    false
+pub fn has_feature(text: &[u8], feature: &[u8]) -> bool
+    ensures { result ≡ has_feature text.now feature.now }
+{
+    text.split(|byte| *byte == b';').any(|one| one == feature)
 }

@@ -1,10 +1,11 @@
 //! The processes that gdb sees.
-ghost use Rattle.std.specs.Prelude.{◌≡◌, IfSome, option_map, true};
-ghost use Rattle.gdbanswers.specs.Alive.{is_alive};
+ghost use Rattle.std.specs.Prelude.{◌++◌, ◌≡◌, IfOk, IfSome, OnOk, option_map, true};
+ghost use Rattle.gdbanswers.specs.Alive.{all_held, held, is_alive};
 ghost use Rattle.gdbmotions.specs.Points.{holds};
 ghost use Rattle.kernel.specs.Idle.{running_pid};
 ghost use Rattle.machine.specs.Seen.{seen_of};
 ghost use Rattle.unixmodel.specs.Shown.{shown_process};
+ghost use Rattle.waits.specs.Pids.{listed};
 
 use gdbmotions::Points;
 use machine::ProcessState;
@@ -24,17 +25,35 @@ pub fn is_alive(machine: &Debuggee, pid: u32) -> bool
     }
 }
 
+// A process that has not ended and that gdb holds, by its pid.
+fn held(machine: &Debuggee, points: &Points, pid: u32) -> Option<u32>
+    ensures { result ≡ held machine.now.state points.now.released.items pid }
+{
+    if is_alive(machine, pid) && points.holds(pid) {
+        Some(pid)
+    } else {
+        None
+    }
+}
+
+// Puts a pid at the end, if there is one.
+fn push(found: Option<u32>, pids: &mut Vec<u32>) -> Result<(), AllocError>
+    ensures { OnOk result (pids.new.items ≡ pids.old.items ++ listed found) }
+{
+    if let Some(pid) = found {
+        pids.push(pid)?;
+    }
+    Ok(())
+}
+
 /// The pids of the processes that have not ended and that gdb holds, in their order.
-pub fn pids_of(alloc: Global, machine: &Debuggee, points: &Points) -> Result<Vec<u32>, AllocError> {
+pub fn pids_of(alloc: Global, machine: &Debuggee, points: &Points) -> Result<Vec<u32>, AllocError>
+    ensures { IfOk result (λ pids. pids.items ≡ all_held machine.now.state points.now.released.items) }
+{
     let mut pids = Vec::new(alloc);
     let mut last = 0;
-    for _process in 0..MOST_PROCESSES {
-        let Some(pid) = machine.next_pid(last) else {
-            break;
-        };
-        if is_alive(machine, pid) && points.holds(pid) {
-            pids.push(pid)?;
-        }
+    while let Some(pid) = machine.next_pid(last) {
+        push(held(machine, points, pid), &mut pids)?;
         last = pid;
     }
     Ok(pids)

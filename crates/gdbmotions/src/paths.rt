@@ -1,4 +1,7 @@
 //! Which programs processes run, at each time: the machine keeps no names.
+ghost use Rattle.std.specs.Prelude.{[], ◌≡◌, cond};
+ghost use Rattle.gdbmotions.specs.Paths.{is_known, path_known};
+
 use std::alloc::{AllocError, Global};
 
 /// The program that process 1 runs first.
@@ -20,13 +23,28 @@ pub struct Names {
 }
 
 // Whether an entry is of a process, and not after a time.
-fn is_known(entry: &Named, pid: u32, time: u64) -> bool {
+fn is_known(entry: &Named, pid: u32, time: u64) -> bool
+    ensures { result ≡ is_known entry.now pid time }
+{
     entry.pid == pid && entry.time <= time
+}
+
+// The path of an entry that is of a process and not after a time; else the other path.
+fn known<'a>(entry: &'a Named, pid: u32, time: u64, path: &'a [u8]) -> &'a [u8]
+    ensures { result.now ≡ cond (is_known entry.now pid time) entry.now.path.items path.now }
+{
+    if is_known(entry, pid, time) {
+        entry.path.as_slice()
+    } else {
+        path
+    }
 }
 
 impl Names {
     /// No program but the first.
-    pub fn new(alloc: Global) -> Names {
+    pub fn new(alloc: Global) -> Names
+        ensures { result.entries.items ≡ [] }
+    {
         Names {
             alloc,
             entries: Vec::new(alloc),
@@ -34,12 +52,13 @@ impl Names {
     }
 
     /// The path of the program that a process runs at a time.
-    pub fn path(&self, pid: u32, time: u64) -> &[u8] {
+    #[tactic(auto, using(crate::proofs::Naming::known_more))]
+    pub fn path(&self, pid: u32, time: u64) -> &[u8]
+        ensures { result.now ≡ path_known self.now.entries.items pid time FIRST_PROGRAM.now }
+    {
         let mut path = FIRST_PROGRAM;
         for entry in &self.entries {
-            if is_known(entry, pid, time) {
-                path = entry.path.as_slice();
-            }
+            path = known(entry, pid, time, path);
         }
         path
     }

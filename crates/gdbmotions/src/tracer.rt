@@ -1,5 +1,5 @@
 //! Motions of a machine under gdb.
-ghost use Rattle.std.specs.Prelude.{◌≡◌, OnOk};
+ghost use Rattle.std.specs.Prelude.{[], ◌≡◌, OnOk};
 
 use crate::deeds::{Deed, Doing, deed_at, is_done};
 use crate::paths::Names;
@@ -63,7 +63,14 @@ pub fn go_to_start(timeline: &mut Timeline) -> Result<(), AllocError>
 
 impl Tracer {
     /// One that stops a machine nowhere.
-    pub fn new(alloc: Global) -> Tracer {
+    pub fn new(alloc: Global) -> Tracer
+        ensures breaks { result.points.breaks.items ≡ [] }
+        ensures watches { result.points.watches.items ≡ [] }
+        ensures accesses { result.points.accesses.items ≡ [] }
+        ensures released { result.points.released.items ≡ [] }
+        ensures calls { result.points.calls.items ≡ [] }
+        ensures names { result.names.entries.items ≡ [] }
+    {
         Tracer {
             alloc,
             points: Points::new(alloc),

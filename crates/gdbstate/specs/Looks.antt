@@ -1,7 +1,7 @@
 -- What is sent of the registers and the memory of a process.
 use Rattle.std.specs.Prelude.{List, None, Option, Some, [], codes, option_and_then, slice_get, suc, zero, ℕ, ◌%◌, ◌+◌}
 use Rattle.std.specs.Prelude.{if◌then◌else◌, length, nat_lt, ◌==◌, ◌/◌, ◌∷◌, ◌^◌}
-use Rattle.gdbreplies.specs.Replies.{error_sent, registers_sent}
+use Rattle.gdbreplies.specs.Replies.{error_sent, register_sent, registers_sent}
 use Rattle.gdbwire.specs.Hex.{hex_bytes}
 use Rattle.machine.specs.declared.seen.Seen.{Seen}
 use Rattle.unixmodel.specs.Memory.{Page}
@@ -12,6 +12,19 @@ use Rattle.unixmodel.specs.State.{State}
 abbrev pub registers_answer : Option Seen → List ℕ
 registers_answer None = error_sent 1
 registers_answer (Some seen) = registers_sent seen.registers seen.pc
+
+-- the register of a process with a number, of which the pc is number 32
+abbrev pub register_numbered : ℕ → Seen → Option ℕ
+register_numbered number seen = if number == 32 then Some seen.pc else slice_get seen.registers number
+
+-- a register, or E01 where there is none
+abbrev pub value_answer : Option ℕ → List ℕ
+value_answer None = error_sent 1
+value_answer (Some value) = register_sent value
+
+abbrev pub register_answer : ℕ → Option Seen → List ℕ
+register_answer number None = error_sent 1
+register_answer number (Some seen) = value_answer (register_numbered number seen)
 
 -- the byte at an address of a process, whatever the marks of its page are
 abbrev pub byte_of : ℕ → Option Page → Option ℕ

@@ -1,11 +1,13 @@
 //! What a machine shows of the registers and the memory of a process.
 ghost use Rattle.std.specs.Prelude.{◌≡◌, ◌+◌, ◌++◌, IfOk, OnOk, min, option_map};
-ghost use Rattle.gdbstate.specs.Looks.{byte_from, byte_shown, bytes_shown, memory_answer, registers_answer};
+ghost use Rattle.gdbstate.specs.Looks.{byte_from, byte_shown, bytes_shown, memory_answer, register_answer, registers_answer};
+ghost use Rattle.gdbstate.specs.Looks.{register_numbered};
 ghost use Rattle.machine.specs.Seen.{seen_of};
 ghost use Rattle.unixmodel.specs.Shown.{shown_process};
 
 use gdbreplies::{LONGEST_PART, push_error, push_register, push_registers};
 use gdbwire::{Part, push_bytes};
+use machine::Seen;
 use std::alloc::{AllocError, Global};
 use timeline::Debuggee;
 
@@ -64,21 +66,32 @@ pub fn push_registers_of(machine: &Debuggee, pid: u32, out: &mut Vec<u8>) -> Res
     }
 }
 
+// The register of a process with a number, of which the pc is number 32; `None` where there is none.
+fn register_numbered(seen: &Seen, number: u64) -> Option<u64>
+    ensures { result ≡ register_numbered number seen.now }
+{
+    if number == 32 {
+        return Some(seen.pc);
+    }
+    seen.registers.get(number as usize).copied()
+}
+
 /// Puts a register of a process at the end, of which the pc is number 32, or an error where there is none.
 pub fn push_register_of(
     machine: &Debuggee,
     pid: u32,
     number: u64,
     out: &mut Vec<u8>,
-) -> Result<(), AllocError> {
+) -> Result<(), AllocError>
+    ensures { OnOk result
+        (out.new.items ≡ out.old.items
+        ++ register_answer number (option_map seen_of (shown_process machine.now.state pid))) }
+{
     let Some(seen) = machine.inspect(pid) else {
         return push_error(NOT_THERE, out);
     };
-    if number == 32 {
-        return push_register(seen.pc, out);
-    }
-    match seen.registers.get(number as usize) {
-        Some(value) => push_register(*value, out),
+    match register_numbered(&seen, number) {
+        Some(value) => push_register(value, out),
         None => push_error(NOT_THERE, out),
     }
 }

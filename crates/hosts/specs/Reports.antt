@@ -1,7 +1,9 @@
 -- What the program reports of how a job ended: the status, and the numbers and names of the faults.
-use Rattle.std.specs.Prelude.{Bool, Err, List, Ok, Result, codes, false, true, ℕ}
+use Rattle.std.specs.Prelude.{Bool, Err, List, Ok, Result, codes, false, true, ℕ, ◌≡◌, ◌⊎◌}
 use Rattle.calls.specs.declared.halt.Halt.{Halt}
 use Rattle.calls.specs.declared.halt.Halt.TheVariants as halt
+use Rattle.clap.specs.declared.error.kind.ErrorKind.{ErrorKind}
+use Rattle.clap.specs.declared.error.kind.ErrorKind.TheVariants as kind
 use Rattle.hosts.specs.declared.report.End.{End}
 use Rattle.hosts.specs.declared.report.End.TheVariants.{Halted, Running}
 use Rattle.elf.specs.declared.ElfFault.{ElfFault}
@@ -26,6 +28,17 @@ status_of (Halted (halt.InitEnded status)) = 0
 status_of (Halted halt.Device) = 1
 status_of (Halted halt.Console) = 1
 status_of (Halted halt.Halted) = 1
+
+-- 0 where standard output takes a text, else 1
+abbrev pub IsPrintStatus : ℕ → Type 0
+IsPrintStatus status = (status ≡ 0) ⊎ (status ≡ 1)
+
+-- 2 for words that are no job, 1 where memory is wanting; help is printed
+abbrev pub IsRefusalStatus : ErrorKind → ℕ → Type 0
+IsRefusalStatus kind.OutOfMemory status = status ≡ 1
+IsRefusalStatus kind.DisplayHelp status = IsPrintStatus status
+IsRefusalStatus kind.DisplayVersion status = IsPrintStatus status
+IsRefusalStatus _ status = status ≡ 2
 
 -- how a run ended; bytes of the console that were not written make it one whose console failed
 abbrev pub end_of : Result (Unit {0}) Halt → Bool → End

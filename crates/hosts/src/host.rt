@@ -1,6 +1,6 @@
 //! Where files come from and go to.
 ghost use Rattle.std.specs.Prelude.{◌≡◌, ◌≤◌, IfOk, IfSome, IsTrue, None, OnOk, Option, length, vec_len};
-ghost use Rattle.hosts.specs.Files.{Holds, HoldsFront, HostFiles, Writes};
+ghost use Rattle.hosts.specs.Files.{Appends, Holds, HoldsFront, HoldsMarked, HostFiles, Writes};
 
 use std::{fmt, io};
 
@@ -96,7 +96,11 @@ pub trait Host {
 
     /// The whole of a file that begins with these bytes; of another one its front, at least as long. A host that can
     /// reads no more.
-    fn read_marked(&mut self, name: &str, _mark: &[u8]) -> Result<Vec<u8>, HostFault> {
+    fn read_marked(&mut self, name: &str, mark: &[u8]) -> Result<Vec<u8>, HostFault>
+        ensures bytes { IfOk result (λ bytes. HoldsMarked name.now mark.now bytes.items (files self.old)) }
+        ensures same { files self.new ≡ files self.old }
+    {
+        let _ = mark;
         self.read(name)
     }
 
@@ -117,7 +121,11 @@ pub trait Host {
     }
 
     /// Appends bytes to a file that is there.
-    fn append(&mut self, _name: &str, _bytes: &[u8]) -> Result<(), HostFault> {
+    fn append(&mut self, name: &str, bytes: &[u8]) -> Result<(), HostFault>
+        ensures { OnOk result (Appends name.now bytes.now (files self.old) (files self.new)) }
+    {
+        let _ = name.len();
+        let _ = bytes.len();
         Err(HostFault)
     }
 
@@ -133,6 +141,18 @@ pub trait Host {
     /// Whether a second has passed since standard input was read, so that it is read while the machine works, too.
     fn is_due(&mut self) -> bool {
         true
+    }
+
+    /// Makes a directory of this name, where there is none.
+    fn make_folder(&mut self, _name: &str) -> Result<(), HostFault>
+        ensures { files self.new ≡ files self.old }
+    {
+        Ok(())
+    }
+
+    /// How many milliseconds have passed since some moment, always the same; `None` where there is no clock.
+    fn milliseconds(&self) -> Option<u64> {
+        None
     }
 
     /// Why the last file that could not be read or written could not.

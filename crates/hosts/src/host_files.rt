@@ -1,6 +1,6 @@
 //! Reads and writes a host's files, and reports which of them could not be read or written.
 ghost use Rattle.std.specs.Prelude.{◌≡◌, ◌≤◌, IfOk, OnOk, vec_len};
-ghost use Rattle.hosts.specs.Files.{Holds, HoldsFront, Writes};
+ghost use Rattle.hosts.specs.Files.{Appends, Holds, HoldsFront, HoldsMarked, Writes};
 
 use crate::host::{Front, Host, Why};
 use crate::report::Failure;
@@ -45,7 +45,10 @@ pub fn read_marked<'a, H: Host>(
     host: &mut H,
     name: &'a str,
     mark: &[u8],
-) -> Result<Vec<u8>, Failure<'a>> {
+) -> Result<Vec<u8>, Failure<'a>>
+    ensures bytes { IfOk result (λ bytes. HoldsMarked name.now mark.now bytes.items (H.files host.old)) }
+    ensures same { H.files host.new ≡ H.files host.old }
+{
     match host.read_marked(name, mark) {
         Ok(bytes) => Ok(bytes),
         Err(_) => Err(refused(host, Failure::Read(name))),
@@ -63,7 +66,9 @@ pub fn hold<'a, H: Host>(host: &mut H, name: &'a str) -> Result<(), Failure<'a>>
 }
 
 /// Appends bytes to a file.
-pub fn append<'a, H: Host>(host: &mut H, name: &'a str, bytes: &[u8]) -> Result<(), Failure<'a>> {
+pub fn append<'a, H: Host>(host: &mut H, name: &'a str, bytes: &[u8]) -> Result<(), Failure<'a>>
+    ensures { OnOk result (Appends name.now bytes.now (H.files host.old) (H.files host.new)) }
+{
     match host.append(name, bytes) {
         Ok(()) => Ok(()),
         Err(_) => Err(refused(host, Failure::Write(name))),
@@ -75,6 +80,16 @@ pub fn write<'a, H: Host>(host: &mut H, name: &'a str, bytes: &[u8]) -> Result<(
     ensures { OnOk result (Writes name.now bytes.now (H.files host.old) (H.files host.new)) }
 {
     match host.write(name, bytes) {
+        Ok(()) => Ok(()),
+        Err(_) => Err(refused(host, Failure::Write(name))),
+    }
+}
+
+/// Makes a directory, where there is none of this name.
+pub fn make_folder<'a, H: Host>(host: &mut H, name: &'a str) -> Result<(), Failure<'a>>
+    ensures { H.files host.new ≡ H.files host.old }
+{
+    match host.make_folder(name) {
         Ok(()) => Ok(()),
         Err(_) => Err(refused(host, Failure::Write(name))),
     }

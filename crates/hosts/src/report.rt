@@ -1,5 +1,7 @@
 //! What the program reports of how a job ended.
 ghost use Rattle.std.specs.Prelude.{◌≡◌};
+ghost use Rattle.clap.specs.Values.{kind_of};
+ghost use Rattle.hosts.specs.Reports.{IsPrintStatus, IsRefusalStatus};
 ghost use Rattle.hosts.specs.Reports.{assembly_name, assembly_number, boot_name, boot_number, image_name, image_number};
 ghost use Rattle.hosts.specs.Reports.{make_name, make_number, migrate_name, migrate_number, program_name};
 ghost use Rattle.hosts.specs.Reports.{program_number, status_of, tree_name, tree_number};
@@ -81,6 +83,10 @@ pub enum Failure<'a> {
     Program(ElfFault),
     /// No call has this name.
     Call(&'a str),
+    /// The machine failed.
+    Machine,
+    /// There are more events, states or runs than can be counted.
+    TooMany,
     /// Standard output took not all that was written to it.
     Output,
     /// The program itself found no memory.
@@ -105,6 +111,8 @@ impl fmt::Display for Failure<'_> {
             Failure::Assembly(fault) => write_odd_line(f, *fault),
             Failure::Program(fault) => write_fault(f, program_fault(*fault)),
             Failure::Call(name) => write_name(f, "no call ", name),
+            Failure::Machine => f.write_str("the machine failed"),
+            Failure::TooMany => f.write_str("there are too many events, states or runs"),
             Failure::Output => f.write_str("cannot write standard output"),
             Failure::NoMemory => f.write_str("no memory"),
         }
@@ -269,22 +277,38 @@ pub fn tell<E: Write>(failure: &Failure<'_>, stderr: &mut E) -> u8
 
 /// Writes a text to standard output, and flushes that; where it is not taken, a line says so.
 /// Returns the status to exit with.
-pub fn print<T: fmt::Display, W: Write, E: Write>(text: &T, stdout: &mut W, stderr: &mut E) -> u8 {
+pub fn print<T: fmt::Display, W: Write, E: Write>(text: &T, stdout: &mut W, stderr: &mut E) -> u8
+    ensures { IsPrintStatus result }
+{
     if write!(stdout, "{text}").is_err() || stdout.flush().is_err() {
         return tell(&Failure::Output, stderr);
     }
     0
 }
 
+// Prints an error of this kind.
+fn refuse_as<W: Write, E: Write>(
+    kind: ErrorKind,
+    error: &Error,
+    stdout: &mut W,
+    stderr: &mut E,
+) -> u8
+    ensures { IsRefusalStatus kind result }
+{
+    match kind {
+        ErrorKind::OutOfMemory => tell(&Failure::NoMemory, stderr),
+        ErrorKind::DisplayHelp | ErrorKind::DisplayVersion => print(error, stdout, stderr),
+        _ => {
+            let _ = write!(stderr, "{error}");
+            2
+        }
+    }
+}
+
 /// Prints why the words are no job, or the help that they ask for, and returns the status.
 /// It is 0 for help, 2 for words that are no job, 1 where memory or standard output is wanting.
-pub fn refuse<W: Write, E: Write>(error: &Error, stdout: &mut W, stderr: &mut E) -> u8 {
-    if error.kind() == ErrorKind::OutOfMemory {
-        return tell(&Failure::NoMemory, stderr);
-    }
-    if error.use_stderr() {
-        let _ = write!(stderr, "{error}");
-        return 2;
-    }
-    print(error, stdout, stderr)
+pub fn refuse<W: Write, E: Write>(error: &Error, stdout: &mut W, stderr: &mut E) -> u8
+    ensures { IsRefusalStatus (kind_of error.now) result }
+{
+    refuse_as(error.kind(), error, stdout, stderr)
 }

@@ -1,27 +1,34 @@
 -- What is read of a host's files, and what the commands make of it.
-use Rattle.std.specs.Prelude.{Err, IfOk, IfSome, Ok, Result}
+use Rattle.std.specs.Prelude.{Err, IfOk, IfSome, Ok, OnOk, Result}
 use Rattle.std.proofs.Common.{ap, arith, inl, inr, length, List, None, Option, refl, Some, subst, sym, take, ℕ}
 use Rattle.std.proofs.Common.{◌%◌, ◌∙◌, ◌≡◌, ◌≤◌}
 use Rattle.std.proofs.lemmas.Bool.Decides.{leb_tells}
 use Rattle.std.proofs.lemmas.List.{length-take, take_all}
 use Rattle.blockdev.specs.Blocks.{blocks_of}
+use Rattle.commandline.specs.declared.jobs.Asm.{Asm}
+use Rattle.commandline.specs.declared.jobs.Check.{Check}
 use Rattle.commandline.specs.declared.jobs.Get.{Get}
+use Rattle.commandline.specs.declared.jobs.Ls.{Ls}
 use Rattle.commandline.specs.declared.jobs.Migrate.{Migrate}
 use Rattle.commandline.specs.declared.jobs.Mkfs.{Mkfs}
 use Rattle.commandline.specs.declared.jobs.Put.{Put}
-use Rattle.hosts.specs.Files.{HoldsFront, HostFiles, IsFront, Writes, with_file}
+use Rattle.hosts.specs.Files.{Holds, HoldsFront, HostFiles, IsFront, Writes, with_file}
 use Rattle.hosts.specs.Fronts.{IsWhole}
 use Rattle.hosts.specs.declared.host.Front.{Front}
 use Rattle.image_commands.specs.Entries.{IsManifestOf}
-use Rattle.image_commands.specs.Handed.{GetsIn, HoldsDisk, HoldsFile, IsRead, Known, MakesIn, MigratesIn, PutsIn}
+use Rattle.image_commands.specs.Handed.{AssemblesIn, Checks, GetsIn, HoldsDisk, HoldsFile, IsRead, IsUsed, Known}
+use Rattle.image_commands.specs.Handed.{Lists, MakesIn, MigratesIn, PutsIn}
+use Rattle.imagecheck.specs.declared.rules.Summary.{Summary}
 use Rattle.imagemake.specs.Making.{MakesImage, meaning}
 use Rattle.imagemake.specs.declared.manifest.Entry.{Entry}
 use Rattle.imagerules.specs.Content.{image_of}
 use Rattle.imagerules.proofs.Spelling.{image_of-blocks}
+use Rattle.listings.specs.Listed.{IsDirectoryOf}
 use Rattle.listings.specs.Opened.{IsFileOf, IsPut}
 use Rattle.scripts.specs.Lines.{AreSaid, lines_of}
 use Rattle.scripts.specs.Manifests.{IsLine}
 use Rattle.scripts.specs.declared.manifest.Line.{Line}
+use Rattle.unixmodel.specs.Assembly as the
 use Rattle.unixmodel.specs.Files.{Files}
 use Rattle.unixmodel.specs.Formats.{Format}
 use Rattle.unixmodel.specs.Image.{Denotes, DenotesIn, DenotesSmall}
@@ -61,6 +68,22 @@ file-in words disk bytes None whole has is = tt
 file-in words disk bytes (Some files) whole has is =
     let same = is-image _ disk has.0 is.files whole has.2 is.denotes in
     (has.0, has.1, subst (λ b. IsFileOf b words.path.now bytes) same is)
+
+-- what a check of the disk tells is told of the image
+pub checks-in : (words : Check) (disk : List ℕ) (summary : Summary) (held : Option HostFiles) → length disk % 1024 ≡ 0
+    → HoldsDisk words.image.now disk held → IsUsed (image_of (blocks_of disk)) summary → Checks words summary held
+checks-in words disk summary None whole has is = tt
+checks-in words disk summary (Some files) whole has is =
+    let same = is-image _ disk has.0 is.files whole has.2 is.denotes in
+    (has.0, has.1, subst (λ b. IsUsed b summary) same is)
+
+-- a directory on the disk is one on the image
+pub lists-in : (words : Ls) (disk : List ℕ) (held : Option HostFiles) → length disk % 1024 ≡ 0
+    → HoldsDisk words.image.now disk held → IsDirectoryOf (image_of (blocks_of disk)) words.path.now → Lists words held
+lists-in words disk None whole has is = tt
+lists-in words disk (Some files) whole has is =
+    let same = is-image _ disk has.0 is.files whole has.2 is.denotes in
+    (has.0, has.1, subst (λ b. IsDirectoryOf b words.path.now) same is)
 
 -- the disk of what was read of an image
 holds-disk : (most : ℕ) (front : Front) (name bytes : List ℕ) (held : Option HostFiles)
@@ -151,6 +174,17 @@ makes-in words text lines entries image held new said all made writes =
       handed = refl;
     })
 
+pub assembles-in : (words : Asm) (text file : List ℕ) (held new : Option HostFiles) → Holds words.text.now text held
+    → the.assembled text ≡ Ok file → Writes words.elf.now file held new → Known (AssemblesIn words) held new
+assembles-in words text file held new has assembled writes =
+    handed (AssemblesIn words) words.elf.now file held new writes (λ files known. record {
+      text = text;
+      found = subst (λ h. Holds words.text.now text h) known has;
+      file = file;
+      assembled = assembled;
+      handed = refl;
+    })
+
 -- ---- what is sent is what was made, and nothing was written before
 
 pub writes-as : (name sent bytes : List ℕ) (before held new : Option HostFiles) → sent ≡ bytes → before ≡ held
@@ -165,3 +199,7 @@ put-as image way path sent bytes left here is put =
 
 pub file-as : (image way path bytes : List ℕ) → way ≡ path → IsFileOf image way bytes → IsFileOf image path bytes
 file-as image way path bytes here is = subst (λ p. IsFileOf image p bytes) here is
+
+pub told : {T E : Type 0} {P : Type 0} (r : Result T E) → P → OnOk r P
+told (Ok x) p = p
+told (Err e) p = tt

@@ -1,20 +1,26 @@
 -- What the commands on images hand to a host.
-use Rattle.std.specs.Prelude.{IfSome, List, None, Option, Some, length, take, ℕ, ◌≡◌, ◌≤◌, ◌⊎◌}
+use Rattle.std.specs.Prelude.{IfSome, List, None, Ok, Option, Some, length, take, ℕ, ◌≡◌, ◌≤◌, ◌⊎◌}
 use Rattle.std.specs.Borrow.{Bor}
+use Rattle.commandline.specs.declared.jobs.Asm.{Asm}
+use Rattle.commandline.specs.declared.jobs.Check.{Check}
 use Rattle.commandline.specs.declared.jobs.Get.{Get}
+use Rattle.commandline.specs.declared.jobs.Ls.{Ls}
 use Rattle.commandline.specs.declared.jobs.Migrate.{Migrate}
 use Rattle.commandline.specs.declared.jobs.Mkfs.{Mkfs}
 use Rattle.commandline.specs.declared.jobs.Put.{Put}
 use Rattle.hosts.specs.Files.{HostFiles, with_file}
 use Rattle.image_commands.specs.Entries.{IsManifestOf}
+use Rattle.imagecheck.specs.declared.rules.Summary.{Summary}
 use Rattle.imagemake.specs.Making.{MakesImage, meaning}
 use Rattle.imagemake.specs.declared.manifest.Entry.{Entry}
 use Rattle.scripts.specs.Lines.{AreSaid, lines_of}
 use Rattle.scripts.specs.Manifests.{IsLine}
 use Rattle.scripts.specs.declared.manifest.Line.{Line}
+use Rattle.listings.specs.Listed.{IsDirectoryOf}
 use Rattle.listings.specs.Opened.{IsFileOf, IsPut}
+use Rattle.unixmodel.specs.Assembly as the
 use Rattle.unixmodel.specs.Files.{Files}
-use Rattle.unixmodel.specs.Image.{Denotes, DenotesSmall}
+use Rattle.unixmodel.specs.Image.{Denotes, DenotesSmall, named_blocks, numbers_in_use}
 
 -- what holds of a host's files before and after, where it is known what they hold
 abbrev pub Known : (HostFiles → HostFiles → Type 0) → Option HostFiles → Option HostFiles → Type 0
@@ -76,3 +82,27 @@ pub record MigratesIn (words : Migrate) (old new : HostFiles) : Type 0 where
   pub source : DenotesSmall image files
   pub denotes : Denotes made files
   pub handed : new ≡ with_file old words.new.now made
+
+-- `check`: the image denotes files, which use as many inodes and blocks
+pub record IsUsed (image : List ℕ) (summary : Summary) : Type 0 where
+  pub files : Files
+  pub denotes : Denotes image files
+  pub inodes : summary.inodes ≡ length (numbers_in_use image)
+  pub blocks : summary.blocks ≡ length (named_blocks image)
+
+abbrev pub Checks : Check → Summary → Option HostFiles → Type 0
+Checks words summary held =
+    IfSome held (λ files. (image : List ℕ) × (files words.image.now ≡ Some image) × IsUsed image summary)
+
+-- `ls`: on the image the path reaches a directory
+abbrev pub Lists : Ls → Option HostFiles → Type 0
+Lists words held = IfSome held
+    (λ files. (image : List ℕ) × (files words.image.now ≡ Some image) × IsDirectoryOf image words.path.now)
+
+-- `asm`: the program's file is that of the text
+pub record AssemblesIn (words : Asm) (old new : HostFiles) : Type 0 where
+  pub text : List ℕ
+  pub found : old words.text.now ≡ Some text
+  pub file : List ℕ
+  pub assembled : the.assembled text ≡ Ok file
+  pub handed : new ≡ with_file old words.elf.now file

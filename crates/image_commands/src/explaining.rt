@@ -146,6 +146,7 @@ fn name_of<'a>(job: &Job<'a>) -> Option<&'a str> {
         Job::Flat(words) => Some(words.script),
         Job::Run(words) => Some(words.script),
         Job::Trace(words) => Some(words.run.script),
+        Job::Explore(words) => words.script,
         Job::Mkfs(words) => Some(words.manifest),
         Job::Asm(words) => Some(words.text),
         _ => None,
@@ -247,7 +248,8 @@ fn topic_of(job: &Job<'_>) -> Topic {
         | Job::Play(_)
         | Job::Trace(_)
         | Job::Gdb(_)
-        | Job::GdbInit => Topic::Machine,
+        | Job::GdbInit
+        | Job::Explore(_) => Topic::Machine,
         Job::Mkfs(_) => Topic::Making,
         Job::Check(_) => Topic::Image,
         Job::Ls(_) | Job::Get(_) | Job::Put(_) => Topic::Files,

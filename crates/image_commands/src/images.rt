@@ -6,14 +6,18 @@ ghost use Rattle.unixmodel.specs.Image.{Denotes, DenotesSmall, named_blocks, num
 ghost use Rattle.imagecheck.specs.Faults.{Tells};
 ghost use Rattle.imagecheck.specs.declared.ImageFault.{ImageFault};
 ghost use Rattle.image_commands.specs.Entries.{AreFirst, IsEntryOf, IsManifestOf, count_in, space_of};
-ghost use Rattle.image_commands.specs.Handed.{Known, MakesIn, MigratesIn};
+ghost use Rattle.blockdev.specs.Blocks.{blocks_of};
+ghost use Rattle.imagerules.specs.Content.{image_of};
+ghost use Rattle.image_commands.specs.Handed.{Checks, Known, Lists, MakesIn, MigratesIn};
+ghost use Rattle.listings.specs.Listed.{IsDirectoryOf};
 ghost use Rattle.scripts.specs.Lines.{AreSaid, lines_of};
 ghost use Rattle.scripts.specs.Manifests.{IsLine};
 ghost use Rattle.migrate.specs.Copies.{Overfills};
 
+use crate::openings::disk_at;
 use blockdev::{BLOCK_SIZE, MemDisk};
 use commandline::{Check, Ls, Migrate, Mkfs};
-use hosts::{Failure, Host, bytes_of, disk_of, read_front, read_image, write};
+use hosts::{Failure, Host, bytes_of, read_front, write};
 use image::{Entry, Manifest, MigrateFault, Summary, Thing};
 use layout::{Format, LONGEST, MOST_BLOCKS};
 use listings::{ListingFault, write_directory, write_tree};
@@ -152,8 +156,11 @@ pub fn check<'a, H: Host>(
     alloc: Global,
     words: Check<'a>,
     host: &mut H,
-) -> Result<Summary, Failure<'a>> {
-    let mut disk = disk_of(read_image(host, words.image)?)?;
+) -> Result<Summary, Failure<'a>>
+    ensures used { IfOk result (λ summary. Checks words.entry summary (H.files host.old)) }
+    ensures same { H.files host.new ≡ H.files host.old }
+{
+    let mut disk = disk_at(host, words.image)?;
     match image::check(alloc, &mut disk) {
         Ok(summary) => Ok(summary),
         Err(fault) => Err(Failure::Image(fault)),
@@ -196,29 +203,54 @@ pub fn migrate<'a, H: Host>(
     Ok(summary)
 }
 
+// Why a directory isn't listed.
+fn failure_of<'a>(fault: ListingFault) -> Failure<'a> {
+    match fault {
+        ListingFault::Image(fault) => Failure::Image(fault),
+        ListingFault::Tree(fault) => Failure::Tree(fault),
+        ListingFault::Output => Failure::Output,
+        ListingFault::NoMemory => Failure::NoMemory,
+    }
+}
+
+// Writes the directory that the words name, and those below it if they ask for them.
+fn list<W: Write>(
+    alloc: Global,
+    words: Ls<'_>,
+    disk: MemDisk,
+    stdout: &mut W,
+) -> Result<(), ListingFault>
+    ensures { OnOk result (IsDirectoryOf (image_of (blocks_of disk.bytes)) words.entry.path.now) }
+{
+    let path = words.path.as_bytes();
+    if words.recursive {
+        write_tree(alloc, disk, path, stdout)
+    } else {
+        write_directory(alloc, disk, path, stdout)
+    }
+}
+
+// Standard output takes what was written to it.
+fn flushed<'a, W: Write>(stdout: &mut W) -> Result<(), Failure<'a>> {
+    match stdout.flush() {
+        Ok(()) => Ok(()),
+        Err(_) => Err(Failure::Output),
+    }
+}
+
 /// The command `ls`. The image is checked before anything is listed.
 pub fn ls<'a, H: Host, W: Write>(
     alloc: Global,
     words: Ls<'a>,
     host: &mut H,
     stdout: &mut W,
-) -> Result<(), Failure<'a>> {
-    let disk = disk_of(read_image(host, words.image)?)?;
-    let path = words.path.as_bytes();
-    let listed = if words.recursive {
-        write_tree(alloc, disk, path, stdout)
-    } else {
-        write_directory(alloc, disk, path, stdout)
-    };
-    match listed {
-        Ok(()) => {}
-        Err(ListingFault::Image(fault)) => return Err(Failure::Image(fault)),
-        Err(ListingFault::Tree(fault)) => return Err(Failure::Tree(fault)),
-        Err(ListingFault::Output) => return Err(Failure::Output),
-        Err(ListingFault::NoMemory) => return Err(Failure::NoMemory),
-    }
-    match stdout.flush() {
-        Ok(()) => Ok(()),
-        Err(_) => Err(Failure::Output),
+) -> Result<(), Failure<'a>>
+    ensures listed { OnOk result (Lists words.entry (H.files host.old)) }
+    ensures same { H.files host.new ≡ H.files host.old }
+{
+    let disk = disk_at(host, words.image)?;
+    match list(alloc, words, disk, stdout) {
+        Ok(()) => flushed(stdout),
+        Err(fault) => Err(failure_of(fault)),
     }
 }

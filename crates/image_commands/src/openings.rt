@@ -19,8 +19,8 @@ fn failure<'a>(fault: OpeningFault) -> Failure<'a> {
     }
 }
 
-// The disk of the image of this name.
-fn disk_at<'a, H: Host>(host: &mut H, image: &'a str) -> Result<MemDisk, Failure<'a>>
+/// The disk of the image of this name.
+pub(crate) fn disk_at<'a, H: Host>(host: &mut H, image: &'a str) -> Result<MemDisk, Failure<'a>>
     ensures disk { IfOk result (λ disk. HoldsDisk image.now disk.bytes (H.files host.old)) }
     ensures blocks { IfOk result (λ disk. length disk.bytes % 1024 ≡ 0) }
     ensures same { H.files host.new ≡ H.files host.old }

@@ -1,4 +1,6 @@
 //! Assembles texts, and shows program files.
+ghost use Rattle.std.specs.Prelude.{◌≡◌, OnOk};
+ghost use Rattle.image_commands.specs.Handed.{AssemblesIn, Known};
 
 use addresses::Names;
 use asm::assemble;
@@ -12,7 +14,9 @@ use std::io::Write;
 const MARK: &[u8] = b"\x7fELF";
 
 /// The command `asm`.
-pub fn asm<'a, H: Host>(alloc: Global, words: Asm<'a>, host: &mut H) -> Result<(), Failure<'a>> {
+pub fn asm<'a, H: Host>(alloc: Global, words: Asm<'a>, host: &mut H) -> Result<(), Failure<'a>>
+    ensures { OnOk result (Known (AssemblesIn words.entry) (H.files host.old) (H.files host.new)) }
+{
     let bytes = read(host, words.text)?;
     let Ok(text) = str::from_utf8(bytes.as_slice()) else {
         return Err(Failure::Read(words.text));
@@ -31,7 +35,9 @@ pub fn dump<'a, H: Host, W: Write>(
     words: Dump<'a>,
     host: &mut H,
     stdout: &mut W,
-) -> Result<(), Failure<'a>> {
+) -> Result<(), Failure<'a>>
+    ensures { H.files host.new ≡ H.files host.old }
+{
     let file = read_marked(host, words.elf, MARK)?;
     let segments = match segments(alloc, file.as_slice()) {
         Ok(segments) => segments,

@@ -1,5 +1,6 @@
 //! Files and directories of an image.
-ghost use Rattle.std.specs.Prelude.{◌≡◌, IfOk, length};
+ghost use Rattle.std.specs.Prelude.{◌≡◌, IfOk, OnOk, length};
+ghost use Rattle.listings.specs.Listed.{IsDirectoryOf};
 ghost use Rattle.listings.specs.Opened.{IsFileOf, IsPut};
 
 use crate::checking::disk_of;
@@ -25,7 +26,9 @@ pub fn put(alloc: Global, image: &[u8], path: &[u8], bytes: &[u8]) -> Result<Vec
 
 /// A line for each entry of the directory that a path reaches from the root of an image, which is checked first: its
 /// name in 14 columns, its type, its number and its size.
-pub fn list(alloc: Global, image: &[u8], path: &[u8]) -> Result<Vec<u8>, ListingFault> {
+pub fn list(alloc: Global, image: &[u8], path: &[u8]) -> Result<Vec<u8>, ListingFault>
+    ensures { OnOk result (IsDirectoryOf image.now path.now) }
+{
     let mut lines = Vec::new(alloc);
     write_directory(alloc, disk_of(alloc, image)?, path, &mut lines)?;
     Ok(lines)

@@ -86,7 +86,7 @@ impl Rows {
     }
 
     /// Runs a unit's program. A sequence that does not end has no rows.
-    pub fn run(&mut self, unit: &Unit<'_>, index: usize) -> Result<(), AllocError> {
+    pub(crate) fn run(&mut self, unit: &Unit<'_>, index: usize) -> Result<(), AllocError> {
         let mut registers = START;
         let mut first = self.rows.len();
         let mut rest = unit.program;

@@ -1,12 +1,14 @@
 -- Directories of files at rest.
-use Rattle.std.proofs.Common.{◌≡◌, ◌∙◌, ℕ, IsSome, List, Option, Some, ap, arith, is_some, subst, suc, sym, zero}
+use Rattle.std.proofs.Common.{◌≡◌, ◌∙◌, ℕ, Err, IsSome, List, Ok, Option, Result, Some, ap, arith, is_some}
+use Rattle.std.proofs.Common.{subst, suc, sym, zero}
+use Rattle.std.specs.Prelude.{OnOk}
 use Rattle.mount.specs.Mounted.{IsMounted}
 use Rattle.names.proofs.Finding.{find-used}
 use Rattle.tree.specs.Tree.{FileTree}
 use Rattle.tree.proofs.Storing.{node-of}
 use Rattle.unixmodel.specs.Files.{Node, find, kind_of, slot}
 use Rattle.unixmodel.specs.Files.Node.{Device, Directory, File}
-use Rattle.listings.specs.Listed.{IsAtRest, IsFolder}
+use Rattle.listings.specs.Listed.{IsAtRest, IsDirectoryOf, IsFolder}
 
 -- ---- files at rest
 
@@ -45,3 +47,22 @@ folder-of rest n (File links bytes) here kind = absurd (omega arith)
 folder-of rest n (Device links major minor) here kind = absurd (omega arith)
 folder-of rest n (Directory zero places) here kind = absurd (omega (arith, rest.linked n (Directory zero places) here))
 folder-of rest n (Directory (suc links) places) here kind = record { links = links; places = places; here = here }
+
+-- a directory that was found is one of the image
+pub is-directory : {image identity : List ℕ} {failures : ℕ} {tree now : FileTree} (path : List ℕ) (n : ℕ)
+    → IsMounted image identity failures tree → find tree.files 1 path ≡ Some n → now.files ≡ tree.files
+    → IsFolder now n → IsDirectoryOf image path
+is-directory {tree = tree} path n mounted found same folder = record {
+  files = tree.files;
+  denotes = mounted.denotes;
+  number = n;
+  found = found;
+  links = folder.links;
+  places = folder.places;
+  here = ap (λ files. slot files n) (sym same) ∙ folder.here;
+}
+
+-- what holds anyhow holds where a call succeeds
+pub if-ok : {P T E : Type 0} → P → (r : Result T E) → OnOk r P
+if-ok holds (Ok x) = holds
+if-ok holds (Err e) = tt

@@ -1,6 +1,8 @@
 //! The entries of a directory.
-ghost use Rattle.std.specs.Prelude.{◌≡◌, IfOk, OnOk, false};
-ghost use Rattle.listings.specs.Listed.{IsAtRest, IsFolder};
+ghost use Rattle.std.specs.Prelude.{◌≡◌, IfOk, OnOk, Some, false};
+ghost use Rattle.imagerules.specs.Content.{image_of};
+ghost use Rattle.listings.specs.Listed.{IsAtRest, IsDirectoryOf, IsFolder};
+ghost use Rattle.unixmodel.specs.Files.{find};
 
 use blockdev::{BlockDev, DeviceFault};
 use image::ImageFault;
@@ -79,6 +81,8 @@ impl From<AllocError> for ListingFault {
 /// The directory that a path reaches from the root.
 pub fn directory_at<D: BlockDev>(tree: &mut Tree<D>, path: &[u8]) -> Result<usize, TreeFault>
     requires { IsAtRest tree.old }
+    ensures found { IfOk result (λ number. find tree.old.files 1 path.now ≡ Some number) }
+    ensures same { OnOk result (tree.new.files ≡ tree.old.files) }
     ensures rests { OnOk result (IsAtRest tree.new) }
     ensures folder { IfOk result (IsFolder tree.new) }
 {
@@ -174,7 +178,9 @@ pub fn write_directory<D: BlockDev + Drop, W: Write>(
     disk: D,
     path: &[u8],
     out: &mut W,
-) -> Result<(), ListingFault> {
+) -> Result<(), ListingFault>
+    ensures { OnOk result (IsDirectoryOf (image_of (D.content disk)) path.now) }
+{
     let mut tree = mount(alloc, disk)?;
     let directory = directory_at(&mut tree, path)?;
     write_entries(&mut tree, directory, out)

@@ -1,5 +1,7 @@
 //! The entries of a directory, and of those below it.
 ghost use Rattle.std.specs.Prelude.{◌≡◌, OnOk, false};
+ghost use Rattle.imagerules.specs.Content.{image_of};
+ghost use Rattle.listings.specs.Listed.{IsDirectoryOf};
 
 use crate::directory::{ListingFault, count_places, directory_at, entry_at, write_entries};
 use blockdev::{BlockDev, DeviceFault};
@@ -137,7 +139,9 @@ pub fn write_tree<D: BlockDev + Drop, W: Write>(
     disk: D,
     path: &[u8],
     out: &mut W,
-) -> Result<(), ListingFault> {
+) -> Result<(), ListingFault>
+    ensures { OnOk result (IsDirectoryOf (image_of (D.content disk)) path.now) }
+{
     let mut tree = mount(alloc, disk)?;
     let directory = directory_at(&mut tree, path)?;
     let mut way = Way::new(alloc, path, directory)?;

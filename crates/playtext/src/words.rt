@@ -100,7 +100,7 @@ impl<'a> Words<'a> {
     }
 
     /// No word is left.
-    pub fn end(mut self) -> Result<(), Fault<'a>> {
+    pub(crate) fn end(mut self) -> Result<(), Fault<'a>> {
         match self.next_word() {
             None => Ok(()),
             Some(word) => Err(Fault::at(word, Why::More)),

@@ -1,1 +1,2 @@
 pub mod LastCalls
+pub mod Watching

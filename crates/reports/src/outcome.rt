@@ -54,7 +54,7 @@ impl Stop {
     }
 
     /// The same, where the run came to this halt after its events.
-    pub fn or(self, halt: Option<Halt>) -> Stop {
+    pub(crate) fn or(self, halt: Option<Halt>) -> Stop {
         match halt {
             Some(halt) => Stop::at(halt),
             None => self,

@@ -1,5 +1,6 @@
 //! What is noted while a machine runs.
-ghost use Rattle.std.specs.Prelude.{◌≡◌, None};
+ghost use Rattle.std.specs.Prelude.{[], ◌+◌, ◌-◌, ◌^◌, ◌≡◌, Err, IfOk, None, Ok, min};
+ghost use Rattle.reports.specs.Watching.{counted, sees_calls};
 
 use crate::by_pid::ByPid;
 use crate::ended::{Ended, Kill, Kills, has_ended};
@@ -202,7 +203,17 @@ fn answer<D: BlockDev, T: Translate>(machine: &Machine<D, T>, pid: u32) -> Optio
 impl Reporter {
     /// Watches from the boot of a machine, whose first program has this name, for what is wanted. Addresses have the
     /// names of a symbolizer.
-    pub fn new(alloc: Global, first: &[u8], wanted: Wanted, symbolizer: Symbolizer) -> Reporter {
+    pub fn new(alloc: Global, first: &[u8], wanted: Wanted, symbolizer: Symbolizer) -> Reporter
+        ensures wanted { result.wanted ≡ wanted }
+        ensures names { result.symbolizer ≡ symbolizer }
+        ensures counts { result.counts ≡ record { steps = 0; ticks = 0; keys = 0 } }
+        ensures faults { result.faults.items ≡ [] }
+        ensures more_faults { result.more_faults ≡ 0 }
+        ensures ended { result.ended_ones.items ≡ [] }
+        ensures more_ended { result.more_ended ≡ 0 }
+        ensures news { result.news ≡ None }
+        ensures crash { result.crash ≡ None }
+    {
         Reporter {
             wanted,
             counts: Counts {
@@ -227,7 +238,9 @@ impl Reporter {
     }
 
     /// Whether it watches calls, faults and turns. For the pages of a process alone, it looks after the last event.
-    pub fn sees_calls(&self) -> bool {
+    pub fn sees_calls(&self) -> bool
+        ensures { result ≡ sees_calls self.now.wanted }
+    {
         let wanted = self.wanted;
         wanted.report || wanted.json || wanted.registers.is_some() || wanted.faults
     }
@@ -281,7 +294,9 @@ impl Reporter {
     }
 
     /// A fault, with the name of its pc, if that is known.
-    pub(crate) fn named(&self, fallen: &Fallen) -> Result<Named<PlaceName<'_>>, AllocError> {
+    pub(crate) fn named(&self, fallen: &Fallen) -> Result<Named<PlaceName<'_>>, AllocError>
+        ensures { IfOk result (λ named. named.fault ≡ fallen.now.fault) }
+    {
         Ok(Named {
             fault: fallen.fault,
             name: self.name(&fallen.who, fallen.fault.pc)?,
@@ -289,7 +304,10 @@ impl Reporter {
     }
 
     /// The line of a fault.
-    pub fn line(&self, fallen: &Fallen) -> Result<FaultLine<'_>, AllocError> {
+    pub fn line(&self, fallen: &Fallen) -> Result<FaultLine<'_>, AllocError>
+        ensures who { IfOk result (λ line. line.who ≡ fallen.now.who) }
+        ensures fault { IfOk result (λ line. line.fault.fault ≡ fallen.now.fault) }
+    {
         Ok(FaultLine {
             who: fallen.who,
             fault: self.named(fallen)?,
@@ -356,7 +374,9 @@ impl Reporter {
     }
 
     // What the next step does that is noted.
-    fn look_ahead<D: BlockDev, T: Translate>(&mut self, machine: &Machine<D, T>) -> Next {
+    fn look_ahead<D: BlockDev, T: Translate>(&mut self, machine: &Machine<D, T>) -> Next
+        ensures { self.new ≡ record self.old { running = self.new.running } }
+    {
         let Some(pid) = machine.running() else {
             return Next::Turn;
         };
@@ -373,7 +393,9 @@ impl Reporter {
     }
 
     // Notes the call that the next step makes.
-    fn note_call<D: BlockDev, T: Translate>(&mut self, machine: &Machine<D, T>) {
+    fn note_call<D: BlockDev, T: Translate>(&mut self, machine: &Machine<D, T>)
+        ensures { self.new ≡ record self.old { calls = self.new.calls } }
+    {
         if let Next::Calls(asked, _) = self.next
             && self.keeps_calls()
         {
@@ -493,7 +515,9 @@ impl Reporter {
         }
     }
 
-    fn count(&mut self, event: Event) {
+    fn count(&mut self, event: Event)
+        ensures { self.new ≡ record self.old { counts = counted event self.old.counts } }
+    {
         let counts = &mut self.counts;
         match event {
             Event::Step => counts.steps = counts.steps.saturating_add(1),
@@ -503,13 +527,25 @@ impl Reporter {
     }
 
     /// Counts steps at which no process called or faulted and none got the hart.
-    pub fn passed(&mut self, steps: u32) {
+    pub fn passed(&mut self, steps: u32)
+        ensures { self.new ≡ record self.old {
+          counts = record self.old.counts { steps = min (self.old.counts.steps + steps) (2 ^ 64 - 1) };
+          ended = Ok tt;
+        } }
+    {
         self.counts.steps = self.counts.steps.saturating_add(u64::from(steps));
         self.ended = Ok(());
     }
 
     /// Looks at the machine before an event. Steps that were counted may be left out.
-    pub fn before<D: BlockDev, T: Translate>(&mut self, machine: &Machine<D, T>, event: Event) {
+    pub fn before<D: BlockDev, T: Translate>(&mut self, machine: &Machine<D, T>, event: Event)
+        ensures { self.new ≡ record self.old {
+          counts = counted event self.old.counts;
+          running = self.new.running;
+          next = self.new.next;
+          calls = self.new.calls;
+        } }
+    {
         self.count(event);
         self.next = match event {
             Event::Step => self.look_ahead(machine),
@@ -523,11 +559,20 @@ impl Reporter {
         &mut self,
         machine: &Machine<D, T>,
         ended: Result<(), Halt>,
-    ) {
-        self.ended = ended;
-        if matches!(ended, Err(Halt::Device | Halt::Console | Halt::Halted)) {
-            return;
+    )
+        ensures ended { self.new.ended ≡ ended }
+        ensures device { ended ≡ Err Halt.Device → self.new ≡ record self.old { ended = ended } }
+        ensures console { ended ≡ Err Halt.Console → self.new ≡ record self.old { ended = ended } }
+        ensures halted { ended ≡ Err Halt.Halted → self.new ≡ record self.old { ended = ended } }
+    {
+        if !matches!(ended, Err(Halt::Device | Halt::Console | Halt::Halted)) {
+            self.follow(machine);
         }
+        self.ended = ended;
+    }
+
+    // Notes what the event did.
+    fn follow<D: BlockDev, T: Translate>(&mut self, machine: &Machine<D, T>) {
         match self.next {
             Next::Other => {}
             Next::Turn => {

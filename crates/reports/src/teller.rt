@@ -2,7 +2,7 @@
 
 use crate::json::Left;
 use crate::outcome::{Outcome, Stop};
-use crate::reporter::Reporter;
+use crate::reporter::{Reporter, pids};
 use blockdev::BlockDev;
 use machine::Machine;
 use std::alloc::{AllocError, Global};
@@ -56,6 +56,23 @@ impl Reporter {
         }
         let report = self.report(machine);
         Ok(Some(format!(in alloc; "{report}")?))
+    }
+
+    /// Who waits for what, a line each.
+    pub fn waits<D: BlockDev, T: Translate>(
+        &self,
+        alloc: Global,
+        machine: &Machine<D, T>,
+    ) -> Result<String, AllocError> {
+        let report = self.report(machine);
+        let mut text = String::new(alloc);
+        for pid in pids(machine).as_slice() {
+            if let Some(waiting) = report.waiting(*pid) {
+                let who = self.who(*pid);
+                writeln!(text, "{who} {waiting}")?;
+            }
+        }
+        Ok(text)
     }
 
     // The registers and the pages that are wanted.

@@ -20,7 +20,7 @@ pub(crate) fn byte<D: BlockDev, T: Translate>(
 }
 
 /// Takes the bytes from an address on; `None` where the process may not read one of them.
-pub fn read<D: BlockDev, T: Translate>(
+pub(crate) fn read<D: BlockDev, T: Translate>(
     machine: &Machine<D, T>,
     pid: u32,
     address: u64,

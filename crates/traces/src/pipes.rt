@@ -32,13 +32,13 @@ impl PipeTrack {
     }
 
     /// Forgets all bytes.
-    pub fn clear(&mut self) {
+    pub(crate) fn clear(&mut self) {
         self.level = 0;
         self.puts.clear();
     }
 
     /// Notes that `count` bytes were put.
-    pub fn put(&mut self, count: usize, arrow: Option<(u64, u32)>) {
+    pub(crate) fn put(&mut self, count: usize, arrow: Option<(u64, u32)>) {
         self.level = self.level.saturating_add(count);
         if self.puts.try_push(Put { left: count, arrow }).is_err()
             && let Some(last) = self.puts.last_mut()
@@ -62,7 +62,7 @@ impl PipeTrack {
     }
 
     /// Notes that `count` bytes were taken, and returns the writes whose last byte was among them.
-    pub fn take(&mut self, count: usize) -> ArrayVec<Put, MOST_WRITES> {
+    pub(crate) fn take(&mut self, count: usize) -> ArrayVec<Put, MOST_WRITES> {
         self.level = self.level.saturating_sub(count);
         let mut read = ArrayVec::new();
         let mut left = count;

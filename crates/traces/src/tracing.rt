@@ -1,4 +1,7 @@
 //! The tracer: looks at a machine before and after its events, and writes what it did.
+ghost use Rattle.std.specs.Prelude.{◌≡◌, IfOk, None};
+ghost use Rattle.tracetext.specs.Pens.{has};
+ghost use Rattle.traces.specs.Forms.{wants};
 
 mod beginning;
 mod drawing;
@@ -123,7 +126,14 @@ impl<S: Sinks + Drop> Tracer<S> {
         wanted: Wanted,
         symbolizer: Symbolizer,
         sinks: S,
-    ) -> Result<Self, AllocError> {
+    ) -> Result<Self, AllocError>
+        ensures forms { IfOk result (λ tracer. (form : Form) → has tracer.pen form ≡ wants wanted form) }
+        ensures sinks { IfOk result (λ tracer. tracer.pen.sinks ≡ sinks) }
+        ensures whole { IfOk result (λ tracer. tracer.pen.trouble ≡ None) }
+        ensures shows { IfOk result (λ tracer. tracer.wanted ≡ wanted) }
+        ensures names { IfOk result (λ tracer. tracer.symbolizer ≡ symbolizer) }
+        ensures begins { IfOk result (λ tracer. tracer.at ≡ 0) }
+    {
         let (lanes, pipes) = empty_tables(alloc)?;
         let mut pen = Pen::new(alloc, sinks);
         pen.set(Form::Text, wanted.text);

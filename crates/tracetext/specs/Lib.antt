@@ -1,3 +1,4 @@
+pub mod Names
 pub mod Pens
 pub mod Rows
 pub mod Spans

@@ -1,8 +1,9 @@
 //! A call that a process made, and its arguments as text.
-ghost use Rattle.std.specs.Prelude.{◌≡◌, ◌-◌, ◌++◌, OnOk, length, string_bytes, take};
+ghost use Rattle.std.specs.Prelude.{◌≡◌, ◌-◌, ◌++◌, IsTrue, OnOk, Some, length, string_bytes, take, ◌↔◌};
 ghost use Rattle.tracetext.specs.Texts.{IsEmpty, IsSameText, shown_after};
+ghost use Rattle.unixmodel.specs.Calls.{call_of};
 
-use crate::call_names::{call_of, number_of};
+use crate::call_names::call_of;
 use crate::quoting::Quoted;
 use std::alloc::{AllocError, Global};
 use std::fmt;
@@ -23,13 +24,17 @@ pub struct Asked {
 
 impl Asked {
     /// The call, if the number is one of one.
-    pub fn call(&self) -> Option<Call> {
+    pub fn call(&self) -> Option<Call>
+        ensures { result ≡ call_of self.now.number }
+    {
         call_of(self.number)
     }
 
     /// Whether it is this call.
-    pub fn is(&self, call: Call) -> bool {
-        self.number == number_of(call)
+    pub fn is(&self, call: Call) -> bool
+        ensures { IsTrue result ↔ call_of self.now.number ≡ Some call }
+    {
+        self.call() == Some(call)
     }
 }
 

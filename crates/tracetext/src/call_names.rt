@@ -1,49 +1,90 @@
 //! The calls by their numbers and names.
-ghost use Rattle.std.specs.Prelude.{◌≡◌, false, get_or};
+ghost use Rattle.std.specs.Prelude.{[], ◌≡◌, ◌<◌, IfSome, MatchResult, Some, bytes_eq, false, get_or, slice_index_or};
+ghost use Rattle.tracetext.specs.Names.{IsSetOf, first_unknown, names, number_named, parts};
+ghost use Rattle.unixmodel.specs.Calls.{call_of};
 
 use std::fmt;
 use unixmodel::call::Call;
 
-/// The calls in the order of their numbers, from 1 on.
-const CALLS: [(Call, &str); 21] = [
-    (Call::Fork, "fork"),
-    (Call::Exit, "exit"),
-    (Call::Wait, "wait"),
-    (Call::Pipe, "pipe"),
-    (Call::Read, "read"),
-    (Call::Kill, "kill"),
-    (Call::Exec, "exec"),
-    (Call::Fstat, "fstat"),
-    (Call::Chdir, "chdir"),
-    (Call::Dup, "dup"),
-    (Call::Getpid, "getpid"),
-    (Call::Sbrk, "sbrk"),
-    (Call::Sleep, "sleep"),
-    (Call::Uptime, "uptime"),
-    (Call::Open, "open"),
-    (Call::Write, "write"),
-    (Call::Mknod, "mknod"),
-    (Call::Unlink, "unlink"),
-    (Call::Link, "link"),
-    (Call::Mkdir, "mkdir"),
-    (Call::Close, "close"),
-];
-
-// The call of a number and its name; `None` where no call has it.
-fn entry(number: u32) -> Option<(Call, &'static str)> {
-    let index = number.checked_sub(1)?;
-    CALLS.get(index as usize).copied()
-}
-
-/// The number of a call.
-pub(crate) fn number_of(call: Call) -> u32 {
-    call as u32 + 1
-}
-
 /// The call of a number; `None` where no call has it.
-pub(crate) fn call_of(number: u32) -> Option<Call> {
-    let (call, _) = entry(number)?;
-    Some(call)
+pub(crate) fn call_of(number: u32) -> Option<Call>
+    ensures { result ≡ call_of number }
+{
+    match number {
+        1 => Some(Call::Fork),
+        2 => Some(Call::Exit),
+        3 => Some(Call::Wait),
+        4 => Some(Call::Pipe),
+        5 => Some(Call::Read),
+        6 => Some(Call::Kill),
+        7 => Some(Call::Exec),
+        8 => Some(Call::Fstat),
+        9 => Some(Call::Chdir),
+        10 => Some(Call::Dup),
+        11 => Some(Call::Getpid),
+        12 => Some(Call::Sbrk),
+        13 => Some(Call::Sleep),
+        14 => Some(Call::Uptime),
+        15 => Some(Call::Open),
+        16 => Some(Call::Write),
+        17 => Some(Call::Mknod),
+        18 => Some(Call::Unlink),
+        19 => Some(Call::Link),
+        20 => Some(Call::Mkdir),
+        21 => Some(Call::Close),
+        _ => None,
+    }
+}
+
+// Whether a name is that.
+fn is(that: &str, name: &str) -> bool
+    ensures { result ≡ bytes_eq that.now name.now }
+{
+    that == name
+}
+
+// The name of the call after the first n.
+#[tactic(auto, using(crate::proofs::NameLemmas::spelled))]
+fn name_at(index: usize) -> &'static str
+    requires { index < 21 }
+    ensures { result.now ≡ slice_index_or names index [] }
+{
+    match index {
+        0 => "fork",
+        1 => "exit",
+        2 => "wait",
+        3 => "pipe",
+        4 => "read",
+        5 => "kill",
+        6 => "exec",
+        7 => "fstat",
+        8 => "chdir",
+        9 => "dup",
+        10 => "getpid",
+        11 => "sbrk",
+        12 => "sleep",
+        13 => "uptime",
+        14 => "open",
+        15 => "write",
+        16 => "mknod",
+        17 => "unlink",
+        18 => "link",
+        19 => "mkdir",
+        _ => "close",
+    }
+}
+
+// The number of the call of a name; `None` where no call has it.
+fn number_named(name: &str) -> Option<usize>
+    ensures named { result ≡ number_named name.now }
+    ensures within { IfSome result (λ number. number < 22) }
+{
+    for index in 0..21 {
+        if is(name_at(index), name) {
+            return Some(index + 1);
+        }
+    }
+    None
 }
 
 /// The name of the call of a number, or `call_` and the number where no call has it.
@@ -53,9 +94,9 @@ pub struct CallName(pub u32);
 impl fmt::Display for CallName {
     fn fmt<W: fmt::Write>(&self, f: &mut fmt::Formatter<W>) -> fmt::Result {
         let number = self.0;
-        match entry(number) {
-            Some((_, name)) => f.write_str(name),
-            None => write!(f, "call_{number}"),
+        match number.checked_sub(1) {
+            Some(index) if index < 21 => f.write_str(name_at(index as usize)),
+            _ => write!(f, "call_{number}"),
         }
     }
 }
@@ -72,27 +113,18 @@ impl CallSet {
     pub const ALL: CallSet = CallSet { has: [true; 22] };
 
     /// The calls of these names, with commas between them; `Err` has the first name that no call has.
-    pub fn parse(names: &str) -> Result<CallSet, &str> {
+    pub fn parse(names: &str) -> Result<CallSet, &str>
+        ensures { MatchResult result (IsSetOf (parts names.now))
+            (λ name. first_unknown (parts names.now) ≡ Some name.now) }
+    {
         let mut set = CallSet { has: [false; 22] };
         for name in names.split(',') {
-            if !set.add(name) {
+            let Some(number) = number_named(name) else {
                 return Err(name);
-            }
+            };
+            set.has[number] = true;
         }
         Ok(set)
-    }
-
-    // Adds the call of a name; whether there is one.
-    fn add(&mut self, name: &str) -> bool {
-        for number in 1..22u32 {
-            if let Some((_, known)) = entry(number)
-                && known == name
-            {
-                self.has[number as usize] = true;
-                return true;
-            }
-        }
-        false
     }
 
     /// Whether a number's call is in the set.

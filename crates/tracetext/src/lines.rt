@@ -1,7 +1,7 @@
 //! The lines of a trace in strace's manner.
 
 use crate::asked::CallText;
-use crate::call_names::{CallName, number_of};
+use crate::call_names::{CallName, call_of};
 use std::fmt;
 use std::fmt::Display;
 use unixmodel::call::Call;
@@ -104,7 +104,7 @@ impl fmt::Display for FaultText {
 
 impl Told<'_> {
     fn is(self, call: Call) -> bool {
-        self.number == number_of(call)
+        call_of(self.number) == Some(call)
     }
 }
 

@@ -1,1 +1,3 @@
+pub mod ByPid
 mod Prompting
+mod Waiting

@@ -1,7 +1,7 @@
 -- Who is alive above a pid, and whether that is a prompt.
-use Rattle.std.proofs.Common.{Bool, None, Option, Some, arith, false, inl, inr, is_some, refl, true, ℕ, ◌+◌, ◌<◌, ◌≡◌}
-use Rattle.std.proofs.Common.{◌≤◌, ◌⊎◌}
-use Rattle.std.proofs.lemmas.Bool.{cases_lt, false≢true}
+use Rattle.std.proofs.Common.{None, Option, Some, arith, false, inl, inr, is_some, refl, true, ℕ, ◌<◌, ◌≡◌}
+use Rattle.std.proofs.Common.{◌≤◌}
+use Rattle.std.proofs.lemmas.Bool.{cases_lt}
 use Rattle.kernel.specs.Idle.{is_idle}
 use Rattle.proc.specs.Next.{IsLeastAbove, IsNextOf, NoneAbove}
 use Rattle.unixmodel.specs.declared.process.Mode.{Mode}
@@ -10,7 +10,7 @@ use Rattle.unixmodel.specs.Process.{Process}
 use Rattle.unixmodel.specs.Shown.{shown_process}
 use Rattle.unixmodel.specs.State.{State, holds}
 use Rattle.waits.specs.Prompts.{IsAtPrompt, is_alive, is_console, is_living, reads_console}
-use Rattle.waits.specs.Waits.{wait_at, wait_of}
+use Rattle.waits.specs.Waits.{wait_at}
 
 -- ---- the next one that is alive
 

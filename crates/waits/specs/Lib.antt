@@ -1,2 +1,3 @@
+pub mod Pids
 pub mod Waits
 pub mod Prompts

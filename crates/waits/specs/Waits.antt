@@ -1,5 +1,5 @@
 -- What the processes of a state wait for.
-use Rattle.std.specs.Prelude.{None, Option, Some, option_and_then, option_map, ℕ, ◌%◌, ◌+◌, ◌^◌}
+use Rattle.std.specs.Prelude.{List, None, Option, Some, option_and_then, option_map, ℕ, ◌%◌, ◌+◌, ◌-◌, ◌^◌}
 use Rattle.machine.specs.Holdings.{pending_in}
 use Rattle.unixmodel.specs.declared.call.Call.{Call}
 use Rattle.unixmodel.specs.declared.call.Call.TheVariants as call
@@ -14,6 +14,8 @@ use Rattle.unixmodel.specs.State.{State}
 use Rattle.unixmodel.specs.Turn.{pending_file}
 use Rattle.waits.specs.declared.awaited.Wait.{Wait}
 use Rattle.waits.specs.declared.awaited.Wait.TheVariants.{Bytes, Child, Console, Room, Tick}
+use Rattle.waits.specs.declared.listing.Waiter.{Waiter}
+use Rattle.waits.specs.Pids.{by_pid}
 
 -- what a read or a write of an open file waits for: of its nodes the console alone lets a call wait
 abbrev pub wait_on : Target → Wait
@@ -42,3 +44,10 @@ wait_at s p = wait_by s p (pending_in p.mode)
 -- what the process with a pid waits for, if it does
 abbrev pub wait_of : State → ℕ → Option Wait
 wait_of s pid = option_and_then (wait_at s) (shown_process s pid)
+
+abbrev pub waiter_of : State → ℕ → Option Waiter
+waiter_of s pid = option_map (λ wait. record { pid = pid; wait = wait }) (wait_of s pid)
+
+-- the processes that wait, in the order of their pids
+unfoldable pub waiters : State → List Waiter
+waiters s = by_pid (waiter_of s) (2 ^ 32 - 1)

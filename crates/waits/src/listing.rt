@@ -1,4 +1,7 @@
 //! Who waits for what, in words.
+ghost use Rattle.std.specs.Prelude.{◌++◌, ◌<◌, ◌≡◌, false, length, take, true};
+ghost use Rattle.waits.specs.Pids.{listed};
+ghost use Rattle.waits.specs.Waits.{waiter_of, waiters};
 
 use crate::awaited::{Wait, wait_of};
 use arrayvec::ArrayVec;
@@ -48,15 +51,36 @@ impl fmt::Display for Waiters {
     }
 }
 
-/// The processes of a machine that wait, in the order of their pids.
-pub fn who_waits<D: BlockDev, T: Translate>(machine: &Machine<D, T>) -> Waiters {
+// The process with a pid, and what it waits for; `None` where it doesn't.
+fn waiter_of<D: BlockDev, T: Translate>(machine: &Machine<D, T>, pid: u32) -> Option<Waiter>
+    ensures { result ≡ waiter_of machine.now.state pid }
+{
+    let wait = wait_of(machine, pid)?;
+    Some(Waiter { pid, wait })
+}
+
+// Puts one at the end, if there is one, and returns whether there was room for it.
+fn put(list: &mut ArrayVec<Waiter, MOST_WAITERS>, found: Option<Waiter>) -> bool
+    ensures put { result ≡ true → list.new.items ≡ list.old.items ++ listed found }
+    ensures kept { result ≡ false → list.new.items ≡ list.old.items }
+    ensures full { result ≡ false → length list.old.items ≡ 64 }
+{
+    match found {
+        Some(waiter) => list.try_push(waiter).is_ok(),
+        None => true,
+    }
+}
+
+/// The processes of a machine that wait, in the order of their pids, 64 at most.
+pub fn who_waits<D: BlockDev, T: Translate>(machine: &Machine<D, T>) -> Waiters
+    ensures first { result.list.items ≡ take (length result.list.items) (waiters machine.now.state) }
+    ensures all { length result.list.items < 64 → result.list.items ≡ waiters machine.now.state }
+{
     let mut list = ArrayVec::new();
     let mut last = 0;
     while let Some(pid) = machine.next_pid(last) {
-        if let Some(wait) = wait_of(machine, pid)
-            && list.try_push(Waiter { pid, wait }).is_err()
-        {
-            break;
+        if !put(&mut list, waiter_of(machine, pid)) {
+            return Waiters { list };
         }
         last = pid;
     }

@@ -53,7 +53,7 @@ static ROWS: [Row; 8] = [
         ticks: None,
         states: 1000,
         wanted: Some(4),
-        parts: &["not the wanted outcome: 1, by the script\nstep 4\n"],
+        parts: &["not the wanted outcome: 1, by the script\nstep 6\n"],
         status: 1,
     },
     Row {

@@ -64,6 +64,7 @@ fn boot_of<'a>(job: &Job<'a>) -> Option<(&'a str, u32)> {
         Job::Trace(words) => Some((words.run.image, words.run.frames)),
         Job::Live(words) => Some((words.image, words.frames)),
         Job::Gdb(words) => Some((words.image, words.frames)),
+        Job::Explore(words) => Some((words.image, words.frames)),
         _ => None,
     }
 }

@@ -1,5 +1,6 @@
-use Rattle.std.proofs.Common.{◌≡◌, ◌∙◌, rules, sym}
+use Rattle.std.proofs.Common.{◌≡◌, ◌∙◌, ap, rules, sym}
 use Rattle.listings.proofs.Entries.{folder-kept, folder-of, reached, rests-kept}
+use Rattle.tree.specs.Tree.{FileTree}
 use Rattle.listings.proofs.directory.directory_at.Goals as goal
 
 pub stat-requires-clause-node : goal.stat-requires-clause-node
@@ -18,3 +19,10 @@ returns-clause-folder g c =
     let kind : c.in_ok-node.node.kind ≡ 1 = search rules in
     folder-kept c.in_ok-node.ensures.told.0 c.in-Some.number
     (folder-of (rests-kept told.0 c.requires) c.in-Some.number at.0 at.1 (sym seen.0 ∙ kind))
+
+pub returns-clause-found : goal.returns-clause-found
+returns-clause-found g c = sym c.in_ok-number.ensures.told.1 ∙ c.in-Some.is
+
+pub returns-clause-same : goal.returns-clause-same
+returns-clause-same g c = ap (λ (t : FileTree). t.files) c.in_ok-node.ensures.told.0
+    ∙ ap (λ (t : FileTree). t.files) c.in_ok-number.ensures.told.0

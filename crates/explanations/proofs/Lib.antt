@@ -1,0 +1,3 @@
+mod Chosen
+mod Occurs
+mod Parts

@@ -1,0 +1,22 @@
+use Rattle.std.proofs.Common.{ap, arith, rules, ◌++◌, ◌∙◌}
+use Rattle.gdbanswers.proofs.Holding.{held-all, held-more}
+use Rattle.waits.specs.Pids.{by_pid, listed}
+use Rattle.gdbanswers.proofs.processes.pids_of.Goals as goal
+
+pub loop-pid-init : goal.loop-pid-init
+unfolding by_pid
+loop-pid-init c = record { within = omega arith; found = c.new-pids.ensures.items }
+
+pub loop-pid-preserved : goal.loop-pid-preserved
+loop-pid-preserved c = record {
+  within = first_of (search rules, omega arith);
+  found = c.in_ok-push.ensures
+      ∙ (ap (λ one. c.loop-pid.pids.items ++ listed one) c.held.ensures
+      ∙ held-more c.args.machine.now.state c.args.points.now.released.items c.loop-pid.last _
+      c.loop-pid.invariant.found _
+      c.in-Some.ensures);
+}
+
+pub returns : goal.returns
+returns c = held-all c.args.machine.now.state c.args.points.now.released.items c.loop-pid.last _
+    c.loop-pid.invariant.found c.loop-pid.invariant.within c.in_default.ensures
