@@ -1,3 +1,5 @@
+pub mod Enders
 pub mod Lines
 pub mod Causes
 pub mod Arguments
+pub mod Rows

@@ -1,4 +1,6 @@
 //! Calls.
+ghost use Rattle.std.specs.Prelude.{◌≡◌};
+ghost use Rattle.jsonrows.specs.Rows.{nothing};
 
 use crate::arguments::Argument;
 use crate::texts::{Bytes, Latin, Printed};
@@ -31,7 +33,9 @@ pub struct Handed {
 
 impl Handed {
     /// Nothing.
-    pub fn nothing() -> Handed {
+    pub fn nothing() -> Handed
+        ensures { result ≡ nothing }
+    {
         Handed {
             path: None,
             new_path: None,
