@@ -1,6 +1,6 @@
 //! The reasons to stop of one motion.
 use crate::points::{Points, Watch};
-use gdbstate::{AccessWatch, Break, Reasons, Stepping, Watched, byte_at};
+use gdbstate::{AccessWatch, Break, Reasons, Stepping, Watched, Width, number_at};
 use std::alloc::{AllocError, Global};
 use timeline::Debuggee;
 
@@ -11,25 +11,25 @@ pub(crate) const EXIT: u64 = 2;
 
 pub(crate) const EXEC: u64 = 7;
 
-// The bytes of a watch, as they are now.
+// The bytes of a watch, as they are now, in as few numbers as they make.
 fn push_watched(
     machine: &Debuggee,
     watch: Watch,
     watched: &mut Vec<Watched>,
 ) -> Result<(), AllocError> {
-    let Watch {
-        pid,
-        address,
-        count,
-    } = watch;
-    for index in 0..count {
-        let address = address.wrapping_add(index);
-        let value = byte_at(machine, pid, address);
+    let Watch { pid, count, .. } = watch;
+    let mut done = 0;
+    while done < count {
+        let address = watch.address.wrapping_add(done);
+        let width = Width::at(address, count - done);
+        let value = number_at(machine, pid, address, width);
         watched.push(Watched {
             pid,
             address,
+            width,
             value,
         })?;
+        done += width.bytes();
     }
     Ok(())
 }

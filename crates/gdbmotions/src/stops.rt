@@ -6,7 +6,7 @@ use crate::points::Points;
 use crate::sight::is_so;
 use causes::{cause, word};
 use gdbreplies::{Signal, Stop};
-use gdbstate::{Break, Reasons, byte_at, is_accessed, is_ecall, is_stepped};
+use gdbstate::{Break, Reasons, Watched, is_accessed, is_ecall, is_stepped, number_at};
 use machine::Seen;
 use timeline::Debuggee;
 use unixmodel::trap::Cause;
@@ -40,13 +40,30 @@ pub(crate) fn call_of(machine: &Debuggee, seen: &Seen) -> Option<u64> {
     }
 }
 
-// A byte that is another than it was, and whose it is.
+// The number of watched bytes, as it is now.
+fn number_of(machine: &Debuggee, one: &Watched) -> Option<u64> {
+    number_at(machine, one.pid, one.address, one.width)
+}
+
+// The address of the first watched byte that is another than it was.
+fn changed_at(one: &Watched, now: Option<u64>) -> u64 {
+    match (one.value, now) {
+        (Some(old), Some(new)) => {
+            let byte = (old ^ new).trailing_zeros() / 8;
+            one.address.wrapping_add(u64::from(byte))
+        }
+        _ => one.address,
+    }
+}
+
+// Why a process stops whose watched bytes are others than they were.
 fn changed(machine: &Debuggee, reasons: &Reasons) -> Option<(u32, Stop)> {
     let one = reasons
         .watched
         .iter()
-        .find(|one| byte_at(machine, one.pid, one.address) != one.value)?;
-    Some((one.pid, Stop::Wrote(one.address)))
+        .find(|one| number_of(machine, one) != one.value)?;
+    let address = changed_at(one, number_of(machine, one));
+    Some((one.pid, Stop::Wrote(address)))
 }
 
 // Whether a process is at a break, one of whose conditions holds.

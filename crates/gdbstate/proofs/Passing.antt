@@ -10,19 +10,18 @@ use Rattle.causes.specs.Causes.{memory_of, memory_shown, trap_of, trap_shown}
 use Rattle.gdbstate.specs.Accesses.{access_at}
 use Rattle.gdbstate.specs.declared.reasons.Reasons.{Reasons}
 use Rattle.gdbstate.specs.declared.reasons.Stepping.{Stepping}
-use Rattle.gdbstate.specs.declared.reasons.Watched.{Watched}
-use Rattle.gdbstate.specs.Looks.{byte_of, byte_shown}
-use Rattle.gdbstate.specs.Passing.{IsPageOf, PassesWhoRuns, has_near, is_near, is_same_pid, stops_within}
-use Rattle.gdbstate.specs.Passing.{stops_within_pid, stops_within_seen}
-use Rattle.gdbstate.specs.Stops.{break_at, byte_changed, calls_as, changed, faults, has_access, has_break}
-use Rattle.gdbstate.specs.Stops.{same_byte}
+use Rattle.gdbstate.specs.declared.watches.Watched.{Watched}
+use Rattle.gdbstate.specs.declared.watches.Width.{Width}
+use Rattle.gdbstate.specs.Passing.{PassesWhoRuns, has_near, stops_within, stops_within_pid, stops_within_seen}
+use Rattle.gdbstate.specs.Stops.{break_at, calls_as, changed, faults, has_access, has_break}
+use Rattle.gdbstate.specs.Watches.{is_same_pid, near_watch, number_on, number_shown, same_number, watch_changed}
 use Rattle.gdbstate.specs.Stops.{is_ecall, is_stepped, stops, stops_pid, stops_seen}
 use Rattle.gdbstate.specs.Stops.{stops_who_runs, word_in}
 use Rattle.hart.specs.Stops.{is_stop}
 use Rattle.kernel.specs.Idle.{running_pid, running_process}
 use Rattle.machine.specs.declared.seen.Seen.{Seen}
 use Rattle.machine.specs.Seen.{seen_of}
-use Rattle.std.specs.Prelude.{not, slice_get, ◌%◌, ◌==◌, ◌/◌}
+use Rattle.std.specs.Prelude.{not, slice_get, ◌==◌, ◌/◌}
 use Rattle.timeline.specs.Line.{IsBeside, Passes, StopsOnlyAt}
 use Rattle.unixmodel.specs.Cycle.{act_word, cycle, fetched}
 use Rattle.unixmodel.specs.declared.instr.Instr.{Instr}
@@ -33,7 +32,7 @@ use Rattle.unixmodel.specs.Memory.{Memory, Page, bytes_at, page_for}
 use Rattle.unixmodel.specs.Next.{effect_of}
 use Rattle.unixmodel.specs.Numbers.{number}
 use Rattle.unixmodel.specs.Process.{Process}
-use Rattle.unixmodel.specs.Shown.{shown_page, shown_process, told_page}
+use Rattle.unixmodel.specs.Shown.{shown_process, told_page}
 use Rattle.unixmodel.specs.State.{State}
 use Rattle.unixmodel.specs.Words.{instruction_of}
 
@@ -97,22 +96,13 @@ passes-who r s (Some p) is computes quiet shown =
     ap (λ o. stops_pid r s (option_map (λ (q : Process). q.pid) o)) is
     ∙ passing r s p (quiet p is shown) computes shown
 
--- a byte of a page that is there already
-pub on-page : (s : State) (pid address : ℕ) (w : Watched) (page : List ℕ) → IsPageOf s pid address page
-    → w.pid ≡ pid → w.address / 4096 ≡ address / 4096
-    → byte_shown s w.pid w.address ≡ slice_get page (w.address % 4096)
-unfolding byte_shown
-on-page s pid address w page is same near =
-    ap (λ n. byte_of w.address (shown_page s n (w.address / 4096))) same
-    ∙ ap (λ n. byte_of w.address (shown_page s pid n)) near ∙ is w.address
-
 -- ---- bytes of processes that do not run
 
-same-byte-shown : (from s : State) (pid address : ℕ) → shown_process s pid ≡ shown_process from pid
-    → byte_shown s pid address ≡ byte_shown from pid address
-unfolding byte_shown
-same-byte-shown from s pid address same =
-    ap (λ o. byte_of address (option_and_then (λ (p : Process). option_map told_page
+same-shown : (from s : State) (pid address : ℕ) (width : Width) → shown_process s pid ≡ shown_process from pid
+    → number_shown s pid address width ≡ number_shown from pid address width
+unfolding number_shown
+same-shown from s pid address width same =
+    ap (λ o. number_on address width (option_and_then (λ (p : Process). option_map told_page
     (slice_get p.memory (address / 4096))) o)) same
 
 eq-self : (n : ℕ) → (n == n) ≡ true
@@ -125,13 +115,13 @@ pid-runs (Some n) pid other is =
 
 -- bytes of processes that do not run, as they were, stay as they were
 apart : (from s : State) (ws : List Watched) → IsBeside from s
-    → list_any (is_near from (running_pid from)) ws ≡ false → list_any (byte_changed s) ws ≡ false
+    → list_any (near_watch from (running_pid from)) ws ≡ false → list_any (watch_changed s) ws ≡ false
 apart from s [] beside far = refl
 apart from s (w ∷ ws) beside far =
     let parts = or_parts _ _ far in
     let here = or_parts _ _ parts.0 in
-    let same : byte_changed s w ≡ byte_changed from w =
-    ap (λ b. not (same_byte b w.value)) (same-byte-shown from s w.pid w.address
+    let same : watch_changed s w ≡ watch_changed from w =
+    ap (λ b. not (same_number b w.value)) (same-shown from s w.pid w.address w.width
     (beside.others w.pid (pid-runs (running_pid from) w.pid here.0))) in
     or_from _ _ (same ∙ here.1) (apart from s ws beside parts.1)
 

@@ -1,5 +1,5 @@
 -- Why a motion ends.
-use Rattle.std.specs.Prelude.{Bool, List, None, Option, Some, false, get_or, is_some, length, nat_le, nat_lt, not}
+use Rattle.std.specs.Prelude.{Bool, List, None, Option, Some, false, get_or, is_some, length, nat_le, nat_lt}
 use Rattle.std.specs.Prelude.{option_and_then, option_map, slice_index, true, ℕ, ◌&&◌, ◌==◌, ◌||◌}
 use Rattle.std.specs.List.{list_any}
 use Rattle.causes.specs.Causes.{memory_shown, trap_shown}
@@ -7,8 +7,7 @@ use Rattle.gdbstate.specs.Accesses.{access_at}
 use Rattle.gdbstate.specs.declared.reasons.Break.{Break}
 use Rattle.gdbstate.specs.declared.reasons.Reasons.{Reasons}
 use Rattle.gdbstate.specs.declared.reasons.Stepping.{Stepping}
-use Rattle.gdbstate.specs.declared.reasons.Watched.{Watched}
-use Rattle.gdbstate.specs.Looks.{byte_shown}
+use Rattle.gdbstate.specs.Watches.{watch_changed}
 use Rattle.hart.specs.Stops.{is_stop}
 use Rattle.kernel.specs.Idle.{running_pid}
 use Rattle.machine.specs.declared.seen.Seen.{Seen}
@@ -21,12 +20,6 @@ use Rattle.unixmodel.specs.Numbers.{number}
 use Rattle.unixmodel.specs.Shown.{shown_process}
 use Rattle.unixmodel.specs.State.{State}
 use Rattle.unixmodel.specs.Words.{instruction_of}
-
--- an option of a number equals another
-abbrev pub same_byte : Option ℕ → Option ℕ → Bool
-same_byte None None = true
-same_byte (Some a) (Some b) = a == b
-same_byte _ _ = false
 
 abbrev pub break_at : ℕ → ℕ → Break → Bool
 break_at pid address b = (b.pid == pid) && (b.address == address)
@@ -82,12 +75,9 @@ stops_pid r s (Some pid) = stops_seen r s (option_map seen_of (shown_process s p
 abbrev pub stops_who_runs : Reasons → State → Bool
 stops_who_runs r s = stops_pid r s (running_pid s)
 
--- a watched byte is another than it was
-abbrev pub byte_changed : State → Watched → Bool
-byte_changed s w = not (same_byte (byte_shown s w.pid w.address) w.value)
-
+-- watched bytes are others than they were
 abbrev pub changed : Reasons → State → Bool
-changed r s = list_any (byte_changed s) r.watched.items
+changed r s = list_any (watch_changed s) r.watched.items
 
 unfoldable pub stops : Reasons → State → Bool
 stops r s = changed r s || stops_who_runs r s

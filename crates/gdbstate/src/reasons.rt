@@ -1,14 +1,14 @@
 //! Why a motion ends.
-ghost use Rattle.std.specs.Prelude.{◌≡◌, ◌%◌, [], IfSome, is_some, slice_get, true};
+ghost use Rattle.std.specs.Prelude.{◌≡◌, [], IfSome, false, is_some, true};
 ghost use Rattle.std.specs.List.{list_any};
-ghost use Rattle.gdbstate.specs.Passing.{IsBare, IsPageOf, PassesWhoRuns, has_near, is_near, is_same_pid, stops_within};
-ghost use Rattle.gdbstate.specs.Stops.{at_call, break_at, byte_changed, changed, has_access, has_break, is_ecall};
-ghost use Rattle.gdbstate.specs.Stops.{is_stepped, same_byte, stops, stops_at, stops_who_runs};
+ghost use Rattle.gdbstate.specs.Passing.{IsBare, PassesWhoRuns, has_near, stops_within, stops_within_pid};
+ghost use Rattle.gdbstate.specs.Stops.{at_call, break_at, changed, has_access, has_break, is_ecall};
+ghost use Rattle.gdbstate.specs.Stops.{is_stepped, stops, stops_at, stops_who_runs};
 ghost use Rattle.hart.specs.Stops.{is_stop};
 ghost use Rattle.kernel.specs.Idle.{running_pid};
 
 use crate::accesses::{AccessWatch, is_accessed};
-use crate::looks::byte_at;
+use crate::watches::{Watched, has_changed, is_near};
 use causes::{cause, word};
 use isa::{Instr, decode};
 use machine::Seen;
@@ -19,14 +19,6 @@ use timeline::{Debuggee, Wanted};
 pub struct Break {
     pub pid: u32,
     pub address: u64,
-}
-
-/// A byte that is watched, as it was when the motion began: `None` where the process had no page there.
-#[derive(Clone, Copy)]
-pub struct Watched {
-    pub pid: u32,
-    pub address: u64,
-    pub value: Option<u8>,
 }
 
 /// A step of a process: up to where it is at an instruction that is not within these addresses.
@@ -80,61 +72,6 @@ fn is_break(one: &Break, pid: u32, address: u64) -> bool
     one.pid == pid && one.address == address
 }
 
-// Whether two bytes are the same, or both are not there.
-fn is_same(one: Option<u8>, other: Option<u8>) -> bool
-    ensures { result ≡ same_byte one other }
-{
-    match (one, other) {
-        (None, None) => true,
-        (Some(one), Some(other)) => one == other,
-        _ => false,
-    }
-}
-
-// Whether a process runs, and has this pid.
-fn is_same_pid(running: Option<u32>, pid: u32) -> bool
-    ensures { result ≡ is_same_pid running pid }
-{
-    match running {
-        Some(running) => running == pid,
-        None => false,
-    }
-}
-
-// Whether a watched byte is another than it was.
-fn has_changed(machine: &Debuggee, one: &Watched) -> bool
-    ensures { result ≡ byte_changed machine.now.state one.now }
-{
-    !is_same(byte_at(machine, one.pid, one.address), one.value)
-}
-
-// The byte of a page at an address in it.
-fn byte_in(page: &[u8], address: u64) -> Option<u8>
-    ensures { result ≡ slice_get page.now (address % 4096) }
-{
-    page.get((address % 4096) as usize).copied()
-}
-
-// Whether a watched byte is another than it was, where `page` is that of another.
-fn has_changed_on(machine: &Debuggee, other: &Watched, page: &[u8], one: &Watched) -> bool
-    requires { IsPageOf machine.now.state other.now.pid other.now.address page.now }
-    ensures { result ≡ byte_changed machine.now.state one.now }
-{
-    if one.pid == other.pid && one.address / 4096 == other.address / 4096 {
-        let byte = byte_in(page, one.address);
-        !is_same(byte, one.value)
-    } else {
-        has_changed(machine, one)
-    }
-}
-
-// Whether a watched byte is of a process, or another than it was.
-fn is_near(machine: &Debuggee, running: Option<u32>, one: &Watched) -> bool
-    ensures { result ≡ is_near machine.now.state running one.now }
-{
-    is_same_pid(running, one.pid) || has_changed(machine, one)
-}
-
 /// Whether a word is that of the instruction that calls.
 pub fn is_ecall(word: Option<u32>) -> bool
     ensures { result ≡ is_ecall word }
@@ -167,30 +104,14 @@ impl Reasons {
         is_one_of(&self.addresses, address) && self.has_one(pid, address)
     }
 
-    // Whether a watched byte is another than it was, where `page` is that of one of them.
-    fn has_changed_by(&self, machine: &Debuggee, one: &Watched, page: &[u8]) -> bool
-        requires { IsPageOf machine.now.state one.now.pid one.now.address page.now }
-        ensures { result ≡ changed self.now machine.now.state }
-    {
-        self.watched
-            .iter()
-            .any(|other| has_changed_on(machine, one, page, other))
-    }
-
-    // Whether a watched byte is another than it was. The page of the first is looked for once.
+    // Whether watched bytes are others than they were.
     fn has_changed(&self, machine: &Debuggee) -> bool
         ensures { result ≡ changed self.now machine.now.state }
     {
-        let [first, ..] = self.watched.as_slice() else {
-            return false;
-        };
-        match machine.peek(first.pid, first.address / 4096) {
-            Some((page, _)) => self.has_changed_by(machine, first, page),
-            None => self.watched.iter().any(|one| has_changed(machine, one)),
-        }
+        self.watched.iter().any(|one| has_changed(machine, one))
     }
 
-    // Whether a watched byte is of the process that runs, or another than it was.
+    // Whether watched bytes are of the process that runs, or others than they were.
     fn has_near(&self, machine: &Debuggee) -> bool
         ensures { result ≡ has_near self.now machine.now.state }
     {
@@ -236,13 +157,13 @@ impl Reasons {
         self.addresses.is_empty() && self.stepping.is_none() && self.accesses.is_empty()
     }
 
-    // Whether a motion surely goes by where the process that runs is, if its next instruction is done.
-    fn passes_who_runs(&self, machine: &Debuggee) -> bool
-        ensures { result ≡ true → PassesWhoRuns self.now machine.now.state }
+    // Whether breaks, steps, loads and stores surely end no motion where the process that runs is, if its next
+    // instruction is done. It is out of line: few motions need it, and what is seen of a process is large.
+    #[inline(never)]
+    fn passes_within(&self, machine: &Debuggee) -> bool
+        ensures { result ≡ true →
+            stops_within_pid self.now machine.now.state (running_pid machine.now.state) ≡ false }
     {
-        if self.is_bare() {
-            return true;
-        }
         let Some(pid) = machine.running() else {
             return false;
         };
@@ -250,6 +171,13 @@ impl Reasons {
             Some(seen) => !self.stops_within(machine, &seen),
             None => false,
         }
+    }
+
+    // Whether a motion surely goes by where the process that runs is, if its next instruction is done.
+    fn passes_who_runs(&self, machine: &Debuggee) -> bool
+        ensures { result ≡ true → PassesWhoRuns self.now machine.now.state }
+    {
+        self.is_bare() || self.passes_within(machine)
     }
 
     // Whether a motion ends where this process runs.

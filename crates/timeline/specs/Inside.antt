@@ -13,12 +13,17 @@ pub record IsAt (start : State) (events : List Event) (n : ℕ) (m : View) : Typ
   pub sound : m.failed ≡ false
   pub state : m.state ≡ state_at start events n
 
+-- a copy is at its time
+abbrev pub IsCopy : State → List Event → Copied → Type 0
+IsCopy start events c = IsAt start events c.at c.machine
+
 abbrev pub line_of : Inside → Line
 line_of t = record { start = t.begin.state; events = t.events; at = t.at }
 
--- the machine is at the run of the first n events, and so is each copy
+-- the machine is at the run of the first n events, and each copy at that of its own
 pub record IsTimeline (t : Inside) : Type 0 where
   pub sound : t.begin.failed ≡ false
   pub goes : t.begin.state.halted ≡ None
   pub here : IsAt t.begin.state t.events t.at t.machine
-  pub copies : All (λ (c : Copied). IsAt t.begin.state t.events c.at c.machine) t.copies.items
+  pub near : IsCopy t.begin.state t.events t.near
+  pub copies : All (IsCopy t.begin.state t.events) t.copies.items

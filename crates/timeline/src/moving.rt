@@ -5,7 +5,7 @@ ghost use Rattle.timeline.specs.Line.{HitIn, IsEnd, IsFirst, IsLast, IsStride, P
 ghost use Rattle.stretches.specs.Stretches.{IsAhead};
 ghost use Rattle.unixmodel.specs.declared.event.Event.TheVariants.{Step};
 
-use crate::copies::last_copy;
+use crate::copies::last_before;
 use crate::giving::give;
 use crate::timeline::Timeline;
 use crate::wanted::Wanted;
@@ -125,6 +125,18 @@ impl Timeline {
         self.go_by_one(event)
     }
 
+    // How many events there are at most up to where the next copy may be due.
+    fn room(&self) -> u64
+        ensures { 0 < result }
+    {
+        let due = self.due();
+        if self.at < due {
+            due - self.at
+        } else {
+            self.every.max(1)
+        }
+    }
+
     // How many of an event that comes n times are gone by at once: no further than to a time, to where the next copy
     // may be due, and to where nobody has seen what is printed.
     fn stretch(&mut self, times: u32, until: u64) -> u32
@@ -137,7 +149,7 @@ impl Timeline {
     {
         let is_seen = self.at < self.shown;
         self.printed.set_open(!is_seen);
-        let most = u64::from(times).min(until - self.at).min(self.every.max(1));
+        let most = u64::from(times).min(until - self.at).min(self.room());
         let most = if is_seen {
             most.min(self.shown - self.at)
         } else {
@@ -225,10 +237,8 @@ impl Timeline {
         ensures { result < end }
     {
         let least = end.saturating_sub(width.max(1));
-        match last_copy(&self.copies, end - 1) {
-            Some(index) => least.max(self.copies[index].at),
-            None => least,
-        }
+        let (at, _) = last_before(&self.begin, &self.copies, &self.near, end - 1);
+        least.max(at)
     }
 
     /// Back, to the last time before with a reason to stop, or to the start. `NoMemory` where the host has none for a
@@ -245,6 +255,7 @@ impl Timeline {
             if !self.seek(from) {
                 return Err(NoMemory);
             }
+            self.keep_near();
             if let Some(hit) = self.last_hit(wanted, end)? {
                 return if self.seek(hit) {
                     Ok(Moved::Met)

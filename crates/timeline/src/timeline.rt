@@ -4,7 +4,7 @@ ghost use Rattle.std.specs.Prelude.{IfNone, IfOk, IfSome, None, OnErr, OnOk, fal
 ghost use Rattle.stretches.specs.Stretches.{IsAhead};
 ghost use Rattle.timeline.specs.Line.{state_at};
 
-use crate::copies::{Copied, copy, last_copy};
+use crate::copies::{Copied, become_copy, copy, last_before};
 use crate::giving::give_some;
 use crate::printed::Printed;
 use crate::wanted::Debuggee;
@@ -14,8 +14,8 @@ use std::marker::Model;
 use stretches::{Events, NoRoom};
 use unixmodel::event::Event;
 
-/// How many events there are between two copies, at first.
-const EVERY: u64 = 1 << 20;
+/// How many events there are between two copies, at first. A copy takes as long as a million events.
+const EVERY: u64 = 1 << 23;
 
 /// A machine, its events, and the time that it is at.
 #[derive(Drop)]
@@ -25,6 +25,7 @@ pub struct Timeline {
     pub(crate) events: Events,
     pub(crate) at: u64,
     pub(crate) begin: Debuggee,
+    pub(crate) near: Copied,
     pub(crate) copies: Vec<Copied>,
     pub(crate) most_copies: usize,
     pub(crate) every: u64,
@@ -59,12 +60,17 @@ impl Timeline {
         ensures { IfOk result (λ t. t ≡ record { start = machine.state; events = events; at = 0 }) }
     {
         let begin = copy(alloc, &machine)?;
+        let second = copy(alloc, &machine)?;
         Ok(Timeline {
             alloc,
             machine,
             events,
             at: 0,
             begin,
+            near: Copied {
+                at: 0,
+                machine: second,
+            },
             copies: Vec::new(alloc),
             most_copies,
             every: EVERY,
@@ -141,27 +147,6 @@ impl Timeline {
         }
     }
 
-    // A copy of the machine at a time that is not after another; `None` where the host has no memory.
-    fn copy_before(&self, to: u64) -> Option<(u64, Debuggee)>
-        ensures early { IfSome result (λ r. r.0 ≤ to) }
-        ensures at { IfSome result (λ r. IsAt self.now.start self.now.events r.0 r.1) }
-    {
-        match last_copy(&self.copies, to) {
-            Some(index) => {
-                let Ok(machine) = copy(self.alloc, &self.copies[index].machine) else {
-                    return None;
-                };
-                Some((self.copies[index].at, machine))
-            }
-            None => {
-                let Ok(machine) = copy(self.alloc, &self.begin) else {
-                    return None;
-                };
-                Some((0, machine))
-            }
-        }
-    }
-
     // Goes to a time from which on the events up to another can be done. False where the host has no memory: then
     // nothing changed.
     fn rewind(&mut self, to: u64) -> bool
@@ -169,10 +154,10 @@ impl Timeline {
         ensures ok { result ≡ true → self.new ≡ record self.old { at = self.new.at } }
         ensures err { result ≡ false → self.new ≡ self.old }
     {
-        let Some((at, machine)) = self.copy_before(to) else {
+        let (at, machine) = last_before(&self.begin, &self.copies, &self.near, to);
+        if !become_copy(self.alloc, &mut self.machine, machine) {
             return false;
-        };
-        self.machine = machine;
+        }
         self.at = at;
         true
     }
@@ -203,7 +188,7 @@ impl Timeline {
     }
 
     // When the next copy is due.
-    fn due(&self) -> u64 {
+    pub(crate) fn due(&self) -> u64 {
         match self.copies.last() {
             Some(copy) => copy.at.saturating_add(self.every),
             None => self.every,
@@ -222,6 +207,15 @@ impl Timeline {
             self.thin();
         }
         self.keep_copy();
+    }
+
+    /// Keeps a copy of the machine for motions back that begin a little later, in place of the last one.
+    pub(crate) fn keep_near(&mut self)
+        ensures { self.new ≡ self.old }
+    {
+        if become_copy(self.alloc, &mut self.near.machine, &self.machine) {
+            self.near.at = self.at;
+        }
     }
 
     // Keeps a copy of the machine, if the host has memory for one.

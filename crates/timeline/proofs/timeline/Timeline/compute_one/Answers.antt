@@ -36,6 +36,7 @@ invariant_of-self c =
     record {
       sound = c.self.invariant.sound;
       goes = c.self.invariant.goes;
+      near = c.self.invariant.near;
       here = strode-none c.self.inside.begin.state c.self.inside.events c.self.invariant.goes never
           c.self.inside.at c.compute.result s (omega arith);
       copies = c.self.invariant.copies;
@@ -47,6 +48,7 @@ invariant_of-self-2 c =
     record {
       sound = c.self.invariant.sound;
       goes = c.self.invariant.goes;
+      near = c.self.invariant.near;
       here = strode-one c.self.inside.begin.state c.self.inside.events c.self.invariant.goes never c.self.inside.at
           c.compute.result s (λ none. omega arith);
       copies = c.self.invariant.copies;

@@ -11,6 +11,7 @@ pub invariant_of-self : goal.invariant_of-self
 invariant_of-self c = record {
   sound = c.self.invariant.sound;
   goes = c.self.invariant.goes;
+  near = c.self.invariant.near;
   here = is-at-on c.self.inside.begin.state c.self.inside.events c.self.invariant.goes c.self.inside.at 1 1
       c.args.event c.self.invariant.here
       (subst (λ (l : Line). IsAhead l.events l.at (c.args.event, 1)) (sym c.self.view_is) c.requires) (omega arith)

@@ -2,8 +2,7 @@ use Rattle.std.proofs.Common.{[], Bool, false, List, sym, subst, true, ◌++◌,
 use Rattle.machine.specs.View.{View}
 use Rattle.std.specs.Prelude.{All, if◌then◌else◌, is_ok}
 use Rattle.std.proofs.lemmas.List.Elements.{All-push, All-same}
-use Rattle.timeline.specs.Inside.{IsAt}
-use Rattle.timeline.specs.declared.copies.Copied.{Copied}
+use Rattle.timeline.specs.Inside.{IsAt, IsCopy}
 use Rattle.timeline.proofs.timeline.Timeline.keep_copy.Goals as goal
 
 -- with one more, if there is room for it
@@ -16,8 +15,9 @@ pub invariant_of-self : goal.invariant_of-self
 invariant_of-self c = record {
   sound = c.self.invariant.sound;
   goes = c.self.invariant.goes;
+  near = c.self.invariant.near;
   here = c.self.invariant.here;
-  copies = All-pushed (λ (x : Copied). IsAt c.self.inside.begin.state c.self.inside.events x.at x.machine)
+  copies = All-pushed (IsCopy c.self.inside.begin.state c.self.inside.events)
       (is_ok c.push.result) c.self.inside.copies.items _ _
       c.push.ensures.items c.self.invariant.copies
       (subst (λ (v : View). IsAt c.self.inside.begin.state c.self.inside.events c.self.inside.at v)

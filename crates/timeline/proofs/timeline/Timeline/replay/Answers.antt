@@ -16,6 +16,7 @@ loop-self-preserved c =
       timeline = record {
         sound = before.timeline.sound;
         goes = before.timeline.goes;
+        near = before.timeline.near;
         here = subst (λ n. IsAt c.loop-self.self-inside.begin.state c.loop-self.self-inside.events
             (c.loop-self.self-inside.at + n) c.give_some.new.machine) (sym some) here;
         copies = before.timeline.copies;

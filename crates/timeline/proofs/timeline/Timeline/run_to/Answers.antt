@@ -37,6 +37,7 @@ invariant_of-self g c =
     record {
       sound = c.self.invariant.sound;
       goes = c.self.invariant.goes;
+      near = c.self.invariant.near;
       here = subst (λ n. IsAt c.self.inside.begin.state c.self.inside.events (c.self.inside.at + n)
           c.compute.new.self) (sym c.from.ensures) s.here;
       copies = c.self.invariant.copies;
