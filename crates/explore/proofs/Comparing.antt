@@ -1,17 +1,17 @@
 -- Files that are saved as the same.
-use Rattle.std.proofs.Common.{[], ap, arith, below_more, Bool, drop, eqb, Err, false, length, List, None, Ok, Option}
-use Rattle.std.proofs.Common.{refl, Result, Some, subst, sym, take, true, ℕ, ◌+◌, ◌*◌, ◌++◌, ◌<◌, ◌∙◌, ◌∷◌, ◌≡◌, ◌≤◌}
+use Rattle.std.proofs.Common.{ap, arith, below_more, Bool, drop, Err, false, length, List, None, Ok, Option}
+use Rattle.std.proofs.Common.{refl, Result, Some, subst, sym, take, true, ℕ, ◌+◌, ◌*◌, ◌++◌, ◌<◌, ◌∙◌, ◌≡◌}
 use Rattle.std.proofs.lemmas.Bool.{false≢true}
 use Rattle.std.proofs.lemmas.List.{length-take, take_all, take-append-drop}
 use Rattle.std.proofs.Math.Seq.{take-add, take-append_seam}
 use Rattle.calls.specs.declared.halt.Halt.{Halt}
 use Rattle.std.specs.Prelude.{IfOk, IfSome, if◌then◌else◌, is_none, option_map, ◌==◌}
-use Rattle.explore.specs.Both.{BothStay, IsSamePiece, named_of, piece_of}
+use Rattle.explore.specs.Both.{BothStay, IsSamePiece, named_of}
 use Rattle.machine.specs.declared.inodes.Stat as told
 use Rattle.machine.specs.Looks.{IsRead, ReadsAt, stat_seen}
 use Rattle.orders.specs.Ends.{Saved, saved_as}
 use Rattle.machine.specs.View.{View}
-use Rattle.unixmodel.specs.Files.{Node, links_of, node_bytes, slot}
+use Rattle.unixmodel.specs.Files.{Node, links_of, slot}
 use Rattle.unixmodel.specs.State.{State}
 use Rattle.unixmodel.specs.Shown.{Stat, bytes_or_none, stat_of}
 

@@ -1,19 +1,22 @@
 -- What a machine reports of who runs, who sleeps, and who asks for the time.
-use Rattle.std.proofs.Common.{ap, arith, Bool, drop, eq-eqb, Err, false, get_or, inl, inr, length, List, None, Ok}
-use Rattle.std.proofs.Common.{Option, refl, Some}
-use Rattle.std.proofs.Common.{subst, suc, sym, true, zero, [], ℕ, ◌<◌, ◌∙◌, ◌∷◌, ◌≡◌, ◌⊎◌}
+use Rattle.std.proofs.Common.{ap, arith, Bool, drop, eq-eqb, eqb-true, Err, false, List}
+use Rattle.std.proofs.Common.{None, Ok, Option, refl, Some}
+use Rattle.std.proofs.Common.{subst, suc, sym, true, zero, [], ℕ, ◌<◌, ◌∙◌, ◌∷◌, ◌≡◌}
 use Rattle.std.proofs.lemmas.Bool.{false≢true}
 use Rattle.std.proofs.lemmas.List.Quantifiers.{position-Some}
 use Rattle.std.specs.List.{list_any}
 use Rattle.std.specs.Prelude.{if◌then◌else◌, is_some, not, option_and_then, option_map, slice_get, slice_index, ◌&&◌}
 use Rattle.std.specs.Prelude.{◌||◌}
-use Rattle.explore.specs.Along.{IsNoUptime}
+use Rattle.explore.specs.Along.{IsNoUptime, IsPickedAgain}
 use Rattle.kernel.specs.Idle as kernel
-use Rattle.kernel.specs.Idle.{is_sleeping, is_sleeping_mode, running_pid, running_process}
+use Rattle.kernel.specs.Idle.{is_sleeping, is_sleeping_mode, picked_pid, running_pid, running_process}
 use Rattle.machine.specs.declared.seen.ProcessState.TheVariants as state
 use Rattle.machine.specs.declared.seen.Seen.{Seen}
 use Rattle.machine.specs.Seen.{seen_of, state_seen}
 use Rattle.orders.specs.Ends as ends
+use Rattle.orders.proofs.TidyRuns.{given-back}
+use Rattle.orders.specs.Looked.{IsTurnBack}
+use Rattle.orders.specs.Tidy.{IsTidy}
 use Rattle.orders.specs.Tried.{is_time_awaited, sleeps_on, sleeps_on_in}
 use Rattle.schedules.proofs.Computing.{runner}
 use Rattle.schedules.specs.Alike as laws
@@ -22,17 +25,18 @@ use Rattle.unixmodel.specs.declared.call.Call.{Call}
 use Rattle.unixmodel.specs.declared.call.Call.TheVariants.{Chdir, Close, Dup, Exec, Exit, Fork, Fstat, Getpid, Kill}
 use Rattle.unixmodel.specs.declared.call.Call.TheVariants.{Link, Mkdir, Mknod, Open, Pipe, Read, Sbrk, Sleep, Unlink}
 use Rattle.unixmodel.specs.declared.call.Call.TheVariants.{Uptime, Wait, Write}
-use Rattle.unixmodel.specs.declared.event.Event.TheVariants.{Step}
+use Rattle.unixmodel.specs.declared.event.Event.TheVariants.{Step, Tick}
 use Rattle.unixmodel.specs.declared.process.Mode.{Mode}
 use Rattle.unixmodel.specs.declared.process.Mode.TheVariants.{Ready, Running, Waiting, Zombie}
 use Rattle.unixmodel.specs.Calls.{call_of, calls}
 use Rattle.unixmodel.specs.Meaning.{Effect}
-use Rattle.unixmodel.specs.Next.{effect_of, is_ecall}
+use Rattle.unixmodel.specs.Next.{effect_of, is_ecall, next}
 use Rattle.unixmodel.specs.Numbers.{low}
 use Rattle.unixmodel.specs.Process.{Process, arg, has_pid, is_running, is_running_mode}
 use Rattle.unixmodel.specs.ProcessCalls.{has_slept}
 use Rattle.unixmodel.specs.Shown.{shown_process}
 use Rattle.unixmodel.specs.State.{State, holds, place_of_pid, process_at, running}
+use Rattle.unixmodel.specs.Turn.{turn}
 
 -- ---- who runs
 
@@ -217,3 +221,44 @@ others-ask s pid seen has shown other = by (shown_process s pid) refl shown
         (running-state q.mode (ap (λ (n : Seen). n.state) same ∙ other.runs))
         (other-call (low (arg q 7))
         (λ at. other.other (ap (λ (n : Seen). low (slice_index n.registers 17)) (sym same) ∙ at)))
+
+-- ---- who is picked again
+
+-- the process in a slot that is given, where its pid is that one
+found-pid : (s : State) (o : Option ℕ) (pid : ℕ)
+    → option_map (λ (p : Process). p.pid) (option_and_then (process_at s) o) ≡ Some pid
+    → (i : ℕ) × (p : Process) × (o ≡ Some i) × (process_at s i ≡ Some p) × (p.pid ≡ pid)
+found-pid s None pid has = absurd cc
+found-pid s (Some i) pid has = by (process_at s i) refl has
+  where
+    by : (u : Option Process) → process_at s i ≡ u → option_map (λ (p : Process). p.pid) u ≡ Some pid
+        → (j : ℕ) × (p : Process) × (Some i ≡ Some j) × (process_at s j ≡ Some p) × (p.pid ≡ pid)
+    by None at has = absurd cc
+    by (Some p) at has = (i, p, refl, at, same-some p.pid pid has)
+
+-- the process that is shown with a pid has it
+shown-pid : (s : State) (pid : ℕ) (q : Process) → shown_process s pid ≡ Some q
+    → (j : ℕ) × (process_at s j ≡ Some q) × (q.pid ≡ pid)
+shown-pid s pid q shown =
+    let place = shown-in s pid (place_of_pid s pid) refl q shown in
+    let has = (position-Some (holds (has_pid pid)) s.places place.0 None place.1).1 in
+    (place.0, place.2, eqb-true q.pid pid (sym (ap (holds (has_pid pid)) place.2) ∙ has))
+
+pub picked-again : (s : State) → IsTidy s → kernel.is_anyone_asleep s ≡ false → IsPickedAgain s → IsTurnBack s
+picked-again s tidy awake h = by (shown_process s h.pid) refl h.shown
+  where
+    by : (o : Option Process) → shown_process s h.pid ≡ o → option_map seen_of o ≡ Some h.seen → IsTurnBack s
+    by None is shown = absurd cc
+    by (Some q) is shown =
+        let runner = found-pid s (running s) h.pid h.runs in
+        let next_runner = found-pid (next s Tick).state (turn (next s Tick).state) h.pid h.picked in
+        let mine = shown-pid s h.pid q is in
+        let place : runner.0 ≡ mine.0 =
+        tidy.apart runner.0 mine.0 runner.1 q runner.3 mine.1 (runner.4 ∙ sym mine.2) in
+        let same : runner.1 ≡ q =
+        same-some runner.1 q (sym runner.3 ∙ ap (process_at s) place ∙ mine.1) in
+        let alive : runner.1.killed ≡ false =
+        ap (λ (p : Process). p.killed) same ∙ ap (λ (n : Seen). n.killed) (same-some (seen_of q) h.seen shown)
+        ∙ h.alive in
+        given-back s tidy runner.0 runner.1 runner.2 runner.3 alive (sym (sleeps-same s) ∙ awake) next_runner.0
+        next_runner.1 next_runner.2 next_runner.3 (next_runner.4 ∙ sym runner.4)

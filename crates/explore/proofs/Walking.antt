@@ -2,7 +2,7 @@
 use Rattle.std.proofs.Common.{[], ap, append_assoc, append-nil, arith, below_more, Bool, drop, Err, false, get_or}
 use Rattle.std.proofs.Common.{inl, inr, length, List, None, Ok, ◌+◌}
 use Rattle.std.proofs.Common.{Option, refl, Result, Some, subst, suc, sym, take, true, zero, ℕ, ℤ, ◌++◌, ◌-◌, ◌<◌, ◌∙◌}
-use Rattle.std.proofs.Common.{◌∷◌, ◌≡◌, ◌≤◌, ◌⊎◌}
+use Rattle.std.proofs.Common.{◌∷◌, ◌≡◌, ◌≤◌}
 use Rattle.std.proofs.lemmas.Bool.{false≢true}
 use Rattle.std.proofs.lemmas.List.{take_all, take-append-drop}
 use Rattle.std.proofs.Math.Seq.{take-suc}
@@ -23,14 +23,15 @@ use Rattle.orders.specs.declared.paths.Path.{Path}
 use Rattle.orders.specs.declared.paths.Piece.{Piece}
 use Rattle.orders.specs.Looked.{ComputesUpTo, stepped_on}
 use Rattle.orders.specs.Paths.{events_of, piece_events, pieces_events, steps}
+use Rattle.orders.specs.Tidy.{IsTidy}
 use Rattle.schedules.specs.Schedules as laws
 use Rattle.schedules.specs.Schedules.{ComputesFor, after_steps, computes, computes_as, computes_in}
 use Rattle.unixmodel.specs.declared.event.Event.{Event}
-use Rattle.unixmodel.specs.Calls.{After, quiet}
+use Rattle.unixmodel.specs.Calls.{After}
 use Rattle.unixmodel.specs.Meaning.{Effect}
 use Rattle.unixmodel.specs.Next.{effect_of, next}
 use Rattle.unixmodel.specs.Process.{Process}
-use Rattle.unixmodel.specs.Run.{after_bytes, run}
+use Rattle.unixmodel.specs.Run.{run}
 use Rattle.unixmodel.specs.State.{State, process_at, running}
 
 -- ---- runs
@@ -424,3 +425,11 @@ still-there first old new printed last same sound there path is =
       printed = h.printed;
       ends = ap (λ (s : State). s.halted) same ∙ h.ends;
     }
+
+-- the table of the machine is in order at the end of a path, since the first one's is
+pub tidy-there : (first at : View) (printed : List ℕ) (path : Option Path) → is_some path ≡ true
+    → ForSome path (IsAt first at printed) → IsTidy first.state
+    → ((s : State) (events : List Event) → IsTidy s → IsTidy (run s events).state) → IsTidy at.state
+tidy-there first at printed None some there tidy stays = absurd cc
+tidy-there first at printed (Some path) some there tidy stays =
+    subst IsTidy (sym (there path refl).state) (stays first.state (events_of path) tidy)

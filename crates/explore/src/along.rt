@@ -1,16 +1,17 @@
 //! A machine that goes along lists of events.
 ghost use Rattle.std.specs.Prelude.{◌≡◌, ◌++◌, ◌∷◌, [], IfOk, IfSome, None, false, true};
 ghost use Rattle.std.specs.Option.{ForSome};
-ghost use Rattle.explore.specs.Along.{GoesBy, IsAt, IsNoUptime, LeadsOn, status_from};
+ghost use Rattle.explore.specs.Along.{GoesBy, IsAt, IsNoUptime, IsPickedAgain, LeadsOn, status_from};
 ghost use Rattle.machine.specs.View.{IsUp};
 ghost use Rattle.orders.specs.Paths.{event_of, events_of, piece_events, pieces_events, steps};
+ghost use Rattle.orders.specs.Tidy.{IsTidy};
 
 use crate::further::steps_between;
 use crate::saved::saves_same;
 use blockdev::Duplicate;
 use console::Writer;
 use machine::{Halt, Machine, ProcessState, Seen};
-use orders::{Interrupt, Path, Piece, Trouble, Walker};
+use orders::{Interrupt, Path, Piece, Trouble, Walker, tables_stay_tidy};
 use std::alloc::Global;
 use sv39::Translate;
 
@@ -27,6 +28,7 @@ pub struct Along<'a, D: Duplicate, T: Translate> {
     // The path that it went, where it goes on from there.
     path: Option<Path>,
     ghost is_there: { ForSome path (IsAt first.now machine printed.inner.items) },
+    ghost is_tidy: { IsTidy first.now.state },
 }
 
 // Why a machine stopped: process 1 ended with a status, or it failed.
@@ -171,9 +173,30 @@ fn may_be_uptime(seen: Seen) -> bool
     }
 }
 
+// Whether the process that runs isn't killed, and would be picked again after a timer interrupt.
+fn is_picked_again<D: Duplicate, T: Translate>(machine: &Machine<D, T>) -> bool
+    ensures { result ≡ true → IsPickedAgain machine.now.state }
+{
+    let Some(pid) = machine.running() else {
+        return false;
+    };
+    let Some(picked) = machine.pending_turn() else {
+        return false;
+    };
+    if picked != pid {
+        return false;
+    }
+    match machine.inspect(pid) {
+        None => false,
+        Some(seen) => !seen.killed,
+    }
+}
+
 impl<'a, D: Duplicate, T: Translate> Along<'a, D, T> {
-    /// At the beginning, with a machine of the same size, whatever its state is.
+    /// At the beginning, with a machine of the same size, whatever its state is. The first one's table is as at each
+    /// start and after each run (`tables_stay_tidy`).
     pub fn new(alloc: Global, first: &'a Machine<D, T>, machine: Machine<D, T>) -> Self
+        requires { IsTidy first.now.state }
         ensures { result.first.now ≡ first.now }
     {
         Along {
@@ -263,6 +286,14 @@ impl<'a, D: Duplicate, T: Translate> Walker for Along<'a, D, T> {
 
     fn is_time_awaited(&self) -> bool {
         self.machine.is_time_awaited()
+    }
+
+    fn gives_turn_back(&self) -> bool {
+        tables_stay_tidy();
+        if self.path.is_none() || self.machine.is_anyone_asleep() {
+            return false;
+        }
+        is_picked_again(&self.machine)
     }
 
     fn compute(&mut self, most: u32) -> Result<u32, Trouble> {

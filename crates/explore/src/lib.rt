@@ -13,5 +13,5 @@ pub use along::Along;
 pub use exploring::explore;
 pub use orders::{
     Bounds, Found, Interrupt, Missed, Outcome, Path, Piece, Progress, Standing, Task, Trouble,
-    Unwatched, Walker,
+    Unwatched, Walker, tables_stay_tidy,
 };

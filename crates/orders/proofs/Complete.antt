@@ -1,9 +1,10 @@
 -- Where all that was looked at is cared for and nothing is open, what coarse lists of events show is told.
 use Rattle.std.proofs.Common.{[], ap, append_assoc, append-nil, arith, false, inl, inr, List, None, Option, refl}
-use Rattle.std.proofs.Common.{subst, suc, sym, true, zero, ℕ, ◌^◌, ◌<◌, ◌+◌, ◌++◌, ◌∙◌, ◌∷◌, ◌≡◌, ◌≤◌}
+use Rattle.std.proofs.Common.{Some, subst, suc, sym, true, zero, ℕ, ℤ, ◌^◌, ◌<◌, ◌+◌, ◌++◌, ◌∙◌, ◌∷◌, ◌≡◌, ◌≤◌}
 use Rattle.std.specs.Prelude.{is_none, is_some, ◌&&◌}
 use Rattle.orders.proofs.Alike.{asleep-alike, halted-alike, idle-alike}
-use Rattle.orders.proofs.Free.{TriedFrom, busy-alike, busy-one, busy-steps, busy-then, free-first, free-goes}
+use Rattle.orders.proofs.Free.{TriedFrom, busy-alike, busy-none, busy-one, busy-steps, busy-then}
+use Rattle.orders.proofs.Free.{free-first, free-goes}
 use Rattle.orders.proofs.Free.{left-steps}
 use Rattle.orders.proofs.Free.{left-then, may-come, tried-first, tried-goes, tries-alike}
 use Rattle.orders.proofs.Lists.{both-of}
@@ -11,18 +12,19 @@ use Rattle.orders.proofs.Plain.{BothAlike, after-alike, comes-halted, comes-run,
 use Rattle.orders.proofs.Plain.{who-computes}
 use Rattle.orders.proofs.Runs.{run-goes, run-more, run-none, run-stops}
 use Rattle.orders.proofs.Shows.{same-alike, told-same}
+use Rattle.orders.proofs.Turning.{due-alike, none-asks, none-asleep}
 use Rattle.orders.specs.declared.bounds.Bounds.{Bounds}
 use Rattle.orders.specs.declared.bounds.Missed.{Missed}
 use Rattle.orders.specs.declared.paths.Path.{Path}
 use Rattle.orders.specs.declared.told.Outcome.{Outcome}
 use Rattle.orders.specs.Ends.{AllWait, IsOver}
 use Rattle.orders.specs.Free.{IsFree, is_idle, keys_after, keys_left}
-use Rattle.orders.specs.Looked.{ComesAlike, EndsTold, IsCared, IsLookedAt, IsPlain, IsWhole}
+use Rattle.orders.specs.Looked.{ComesAlike, EndsTold, IsCaredAfter, IsCaredHere, IsDue, IsLookedAt, IsPlain, IsWhole}
 use Rattle.orders.specs.Looked.{stepped_on}
 use Rattle.orders.specs.Paths.{events_of, steps}
 use Rattle.orders.specs.Told.{IsTold}
 use Rattle.orders.specs.Tried.{busy_in, busy_ticks}
-use Rattle.schedules.specs.Alike.{AreAlike, EventKeepsAlike, HasClock, asks_time, timeless}
+use Rattle.schedules.specs.Alike.{AreAlike, EventKeepsAlike, HasClock, IdleTickChangesNothing, asks_time, timeless}
 use Rattle.schedules.specs.Coarse.{IsCoarse, IsPlaced}
 use Rattle.schedules.specs.Schedules.{ComputesFor, after_steps, computes}
 use Rattle.unixmodel.specs.declared.event.Event.{Event}
@@ -85,7 +87,8 @@ rest-goes b m keys count s e es goes h = record {
 }
 
 module _ (b : Bounds) (m : Missed) (keys : List ℕ) (s : State) (seen : List Path) (told : List Outcome)
-    (law : EventKeepsAlike) (up : s.halted ≡ None) (whole : IsWhole b m keys s seen [] told) where
+    (law : EventKeepsAlike) (idle : IdleTickChangesNothing) (up : s.halted ≡ None)
+    (whole : IsWhole b m keys s seen [] told) where
   -- n computing steps before what is alike to what was looked at
   record Near (n count : ℕ) (t : State) (x : List Event) : Type 0 where
     looked : IsLookedAt b m keys s seen [] told x
@@ -99,6 +102,47 @@ module _ (b : Bounds) (m : Missed) (keys : List ℕ) (s : State) (seen : List Pa
   abbrev Further : List Event → Type 0
   Further es = (n count : ℕ) (t : State) (x : List Event) → Near n count t x → Rest b m (keys_left keys x) count t es
       → IsTold s told (after_bytes (run s x).bytes (run t es))
+
+  -- what the rest of a list shows is an outcome, from a state on that is alike to what another list leads to, if what
+  -- comes of that after n turns is cared for
+  abbrev Caring : List Event → Type 0
+  Caring es = (n count : ℕ) (t : State) (z : List Event) → BothAlike t (run s z).state → t.halted ≡ None
+      → busy_ticks s z ≤ count → IsCaredAfter n b keys s seen [] told z → Rest b m (keys_left keys z) count t es
+      → IsTold s told (after_bytes (run s z).bytes (run t es))
+
+  record Onward (es : List Event) : Type 0 where
+    further : Further es
+    caring : Caring es
+
+  -- a list that ends where process 1 goes on and not all wait isn't over
+  not-over : (ks : List ℕ) (t : State) → t.halted ≡ None → (is_idle t ≡ true → ⊥) → IsOver ks (run t []).state → ⊥
+  not-over ks t goes busy over = at (subst (λ (a : After). IsOver ks a.state) (run-none t) over)
+    where
+      at : IsOver ks t → ⊥
+      at (inl ended) = let no : is_some t.halted ≡ false = ap is_some goes in cc
+      at (inr wait) = busy wait.idle
+
+  not-ended : (z : List Event) → (run s z).state.halted ≡ None → EndsTold s told z → ⊥
+  not-ended z goes ends =
+      let no : is_some (run s z).state.halted ≡ false = ap is_some goes in
+      let yes : is_some (run s z).state.halted ≡ true = ends.ended in cc
+
+  -- where process 1 has ended, what is cared for is an outcome
+  ends-told : (n : ℕ) (z : List Event) {status : ℤ} → (run s z).state.halted ≡ Some status
+      → IsCaredAfter n b keys s seen [] told z → EndsTold s told z
+  unfolding IsCaredAfter
+  ends-told zero z ended (inl ends) = ends
+  ends-told zero z ended (inr (inl one)) =
+      let found = both-of (λ (p : Path). IsLookedAt b m keys s seen [] told (events_of p))
+      (λ (p : Path). ComesAlike b.spin keys s z (events_of p)) seen whole.looked one in
+      let y = events_of found.0 in
+      let c : ComesAlike b.spin keys s z y = found.2 in
+      let known : IsLookedAt b m keys s seen [] told y = found.1 in
+      let goes : (run s z).state.halted ≡ None = sym (comes-halted s up b.spin z c.there c.comes)
+      ∙ halted-alike (run s c.there).state (run s y).state c.leads.like.alike ∙ known.goes in
+      absurd cc
+  ends-told zero z ended (inr (inr none)) = absurd none
+  ends-told (suc n) z ended h = absurd (let goes : (run s z).state.halted ≡ None = h.0.goes in cc)
 
   -- ---- where computing steps come first
 
@@ -140,6 +184,68 @@ module _ (b : Bounds) (m : Missed) (keys : List ℕ) (s : State) (seen : List Pa
   at-plain (Key k) es further n count t x near rest =
       absurd (busy-idle t near.plain.0 (free-first (keys_left keys x) t (Key k) es rest.free).1)
 
+  -- ---- one event
+
+  -- an event in a state that is alike to what a list leads to
+  module _ (t : State) (z : List Event) (e : Event) (es : List Event) (up-there : (run s z).state.halted ≡ None)
+      (alike : AreAlike (next (run s z).state e) (next t e)) where
+    more : run s (z ++ e ∷ []) ≡ after_bytes (run s z).bytes (next (run s z).state e)
+    more = run-more z e s up up-there
+
+    both : BothAlike (next t e).state (run s (z ++ e ∷ [])).state
+    both = record {
+      alike = sym alike.alike ∙ sym (ap (λ (a : After). timeless a.state) more);
+      first = alike.second;
+      second = subst (λ (a : After). HasClock a.state) (sym more) alike.first;
+    }
+
+    bytes-more : (run s (z ++ e ∷ [])).bytes ≡ (run s z).bytes ++ (next t e).bytes
+    bytes-more = ap (λ (a : After). a.bytes) more ∙ ap (λ bs. (run s z).bytes ++ bs) alike.bytes
+
+    -- it ends process 1
+    at-first : EndsTold s told (z ++ e ∷ []) → IsTold s told (after_bytes (run s z).bytes (run t (e ∷ es)))
+    at-first ends =
+        let ended : is_some (next t e).state.halted ≡ true =
+        ap is_some (halted-alike (next t e).state (run s (z ++ e ∷ [])).state both.alike) ∙ ends.ended in
+        subst (λ a. IsTold s told (after_bytes (run s z).bytes a)) (sym (run-stops t e es ended))
+        (told-same s told (after_bytes (run s z).bytes (next t e)) (run s (z ++ e ∷ []))
+        (same-alike (after_bytes (run s z).bytes (next t e)) (run s (z ++ e ∷ [])) (sym bytes-more) both.alike)
+        ends.shown)
+
+    -- it doesn't: an outcome of the rest from there on is one of all
+    told-on : (next t e).state.halted ≡ None
+        → IsTold s told (after_bytes (run s (z ++ e ∷ [])).bytes (run (next t e).state es))
+        → IsTold s told (after_bytes (run s z).bytes (run t (e ∷ es)))
+    told-on goes shown =
+        let rest = run (next t e).state es in
+        let all : after_bytes (run s (z ++ e ∷ [])).bytes rest
+        ≡ after_bytes (run s z).bytes (after_bytes (next t e).bytes rest) =
+        ap (λ bs. after_bytes bs rest) bytes-more
+        ∙ ap (λ bs. let q : After = record { state = rest.state; bytes = bs } in q)
+        (append_assoc (run s z).bytes (next t e).bytes rest.bytes) in
+        subst (λ a. IsTold s told (after_bytes (run s z).bytes a)) (sym (run-goes t e es goes))
+        (subst (λ a. IsTold s told a) all shown)
+
+    -- what it leads to is cared for
+    module _ (n count : ℕ) (fewer : busy_ticks s (z ++ e ∷ []) ≤ count + busy_in t e) (caring : Caring es)
+        (rest : Rest b m (keys_left keys z) count t (e ∷ es)) where
+      goes-on : IsCaredAfter n b keys s seen [] told (z ++ e ∷ []) → (next t e).state.halted ≡ None
+          → IsTold s told (after_bytes (run s z).bytes (run t (e ∷ es)))
+      goes-on cared goes = told-on goes
+          (caring n (count + busy_in t e) (next t e).state (z ++ e ∷ []) both goes fewer cared
+          (subst (λ ks. Rest b m ks (count + busy_in t e) (next t e).state es) (sym (left-then keys z (e ∷ [])))
+          (rest-goes b m (keys_left keys z) count t e es goes rest)))
+
+      at-event : IsCaredAfter n b keys s seen [] told (z ++ e ∷ [])
+          → IsTold s told (after_bytes (run s z).bytes (run t (e ∷ es)))
+      at-event cared = by (next t e).state.halted refl
+        where
+          by : (o : Option ℤ) → (next t e).state.halted ≡ o
+              → IsTold s told (after_bytes (run s z).bytes (run t (e ∷ es)))
+          by None goes = goes-on cared goes
+          by (Some status) ended = at-first (ends-told n (z ++ e ∷ [])
+              (sym (halted-alike (next t e).state (run s (z ++ e ∷ [])).state both.alike) ∙ ended) cared)
+
   -- ---- where what is alike was looked at
 
   module _ (count : ℕ) (t : State) (x : List Event) (near : Near 0 count t x) where
@@ -160,191 +266,165 @@ module _ (b : Bounds) (m : Missed) (keys : List ℕ) (s : State) (seen : List Pa
         over-at (inl ended) = absurd (let no : is_some t.halted ≡ false = ap is_some near.goes in cc)
         over-at (inr wait) = ends wait
 
-    module _ (e : Event) (es : List Event) (alike : AreAlike (next (run s x).state e) (next t e)) where
-      more : run s (x ++ e ∷ []) ≡ after_bytes (run s x).bytes (next (run s x).state e)
-      more = run-more x e s up near.looked.goes
-
-      -- the first event ends process 1
-      at-first : EndsTold s told (x ++ e ∷ []) → IsTold s told (after_bytes (run s x).bytes (run t (e ∷ es)))
-      at-first ends =
-          let halts = halted-alike (next (run s x).state e).state (next t e).state alike.alike in
-          let ended : is_some (next t e).state.halted ≡ true =
-          ap is_some (sym halts) ∙ subst (λ (a : After). is_some a.state.halted ≡ true) more ends.ended in
-          subst (λ a. IsTold s told (after_bytes (run s x).bytes a)) (sym (run-stops t e es ended))
-          (told-same s told (after_bytes (run s x).bytes (next t e)) (run s (x ++ e ∷ []))
-          (same-alike (after_bytes (run s x).bytes (next t e)) (run s (x ++ e ∷ []))
-          (ap (λ bs. (run s x).bytes ++ bs) (sym alike.bytes) ∙ sym (ap (λ (a : After). a.bytes) more))
-          (sym alike.alike ∙ sym (ap (λ (a : After). timeless a.state) more)))
-          ends.shown)
-
-      -- after the first event, and some computing steps, it is alike to what was looked at
-      module _ (further : Further es) (rest : Rest b m (keys_left keys x) count t (e ∷ es)) (y : List Event)
-          (known : IsLookedAt b m keys s seen [] told y) (c : ComesAlike b.spin keys s (x ++ e ∷ []) y) where
-        here-goes : (run s (x ++ e ∷ [])).state.halted ≡ None
-        here-goes = sym (comes-halted s up b.spin (x ++ e ∷ []) c.there c.comes)
-            ∙ halted-alike (run s c.there).state (run s y).state c.leads.like.alike ∙ known.goes
-
-        both : BothAlike (next t e).state (run s (x ++ e ∷ [])).state
-        both = record {
-          alike = sym alike.alike ∙ sym (ap (λ (a : After). timeless a.state) more);
-          first = alike.second;
-          second = subst (λ (a : After). HasClock a.state) (sym more) alike.first;
-        }
-
-        goes : (next t e).state.halted ≡ None
-        goes = halted-alike (next t e).state (run s (x ++ e ∷ [])).state both.alike ∙ here-goes
-
-        there : run s c.there ≡ stepped_on c.comes.count (run s (x ++ e ∷ []))
-        there = comes-run s up b.spin (x ++ e ∷ []) c.there c.comes here-goes
-
-        busy-there : busy_ticks s c.there ≡ busy_ticks s (x ++ e ∷ [])
-        busy-there =
-            let more-steps = busy-then s (x ++ e ∷ []) (steps c.comes.count) here-goes in
-            ap (λ fs. busy_ticks s fs) c.comes.same
-            ∙ omega (arith, more-steps, busy-steps (run s (x ++ e ∷ [])).state c.comes.count)
-
-        fewer-known : busy_ticks s y ≤ count + busy_in t e
-        fewer-known =
-            let one = busy-then s x (e ∷ []) near.looked.goes in
-            let last = busy-one (run s x).state e in
-            let same = busy-alike t (run s x).state e level.alike in
-            omega (arith, c.leads.fewer, busy-there, one, last, same, near.fewer)
-
-        near-known : Near c.comes.count (count + busy_in t e) (next t e).state y
-        near-known =
-            let plain = plain-alike law b.spin c.comes.count (next t e).state (run s (x ++ e ∷ [])).state both
-            c.comes.plain in
-            let after = after-alike law b.spin c.comes.count (next t e).state (run s (x ++ e ∷ [])).state both plain in
-            record {
-              looked = known;
-              plain = plain;
-              both = record {
-                alike = after.alike ∙ ap (λ (a : After). timeless a.state) (sym there) ∙ c.leads.like.alike;
-                first = after.first;
-                second = known.clock;
-              };
-              clock = alike.second;
-              goes = goes;
-              fewer = fewer-known;
-            }
-
-        left : keys_after (keys_left keys x) e ≡ keys_left keys y
-        left = sym (left-then keys x (e ∷ []))
-            ∙ sym (ap (λ fs. keys_left keys fs) c.comes.same ∙ left-then keys (x ++ e ∷ []) (steps c.comes.count)
-            ∙ left-steps _ c.comes.count)
-            ∙ c.leads.typed
-
-        bytes : (run s y).bytes ≡ (run s x).bytes ++ (next t e).bytes
-        bytes = sym c.leads.like.bytes ∙ ap (λ (a : After). a.bytes) there ∙ ap (λ (a : After). a.bytes) more
-            ∙ ap (λ bs. (run s x).bytes ++ bs) alike.bytes
-
-        at-known : IsTold s told (after_bytes (run s x).bytes (run t (e ∷ es)))
-        at-known =
-            let onward = run-goes t e es goes in
-            let on : Rest b m (keys_left keys y) (count + busy_in t e) (next t e).state es =
-            subst (λ ks. Rest b m ks (count + busy_in t e) (next t e).state es) left
-            (rest-goes b m (keys_left keys x) count t e es goes rest) in
-            let all : after_bytes (run s y).bytes (run (next t e).state es)
-            ≡ after_bytes (run s x).bytes (after_bytes (next t e).bytes (run (next t e).state es)) =
-            ap (λ bs. after_bytes bs (run (next t e).state es)) bytes
-            ∙ ap (λ bs. let q : After = record { state = (run (next t e).state es).state; bytes = bs } in q)
-            (append_assoc (run s x).bytes (next t e).bytes (run (next t e).state es).bytes) in
-            subst (λ a. IsTold s told (after_bytes (run s x).bytes a)) (sym onward)
-            (subst (λ a. IsTold s told a) all
-            (further c.comes.count (count + busy_in t e) (next t e).state y near-known on))
-
-      -- what the first event leads to is cared for
-      at-cared : Further es → Rest b m (keys_left keys x) count t (e ∷ es) → IsCared b keys s seen [] told (x ++ e ∷ [])
-          → IsTold s told (after_bytes (run s x).bytes (run t (e ∷ es)))
-      at-cared further rest (inl ends) = at-first ends
-      at-cared further rest (inr (inl one)) =
-          let found = both-of (λ (p : Path). IsLookedAt b m keys s seen [] told (events_of p))
-          (λ (p : Path). ComesAlike b.spin keys s (x ++ e ∷ []) (events_of p)) seen whole.looked one in
-          at-known further rest (events_of found.0) found.1 found.2
-      at-cared further rest (inr (inr none)) = absurd none
-
-    at-next : (e : Event) (es : List Event) → Further es → Rest b m (keys_left keys x) count t (e ∷ es)
+    at-next : (e : Event) (es : List Event) → Onward es → Rest b m (keys_left keys x) count t (e ∷ es)
         → IsTold s told (after_bytes (run s x).bytes (run t (e ∷ es)))
-    at-next e es further rest =
+    at-next e es onward rest =
         let back : BothAlike t (run s x).state = level in
         let free = free-first (keys_left keys x) t e es rest.free in
         let tries = tries-alike b m count (busy_ticks s x) t (run s x).state e back near.fewer
         (tried-first b m count t e es rest.tried) in
-        at-cared e es
-        (law (run s x).state t e back.second back.first (sym back.alike)
-        (asks-none (run s x).state e near.looked.quiet))
-        further rest (near.looked.further e (may-come (keys_left keys x) t (run s x).state e back free) tries)
+        let alike = law (run s x).state t e back.second back.first (sym back.alike)
+        (asks-none (run s x).state e near.looked.quiet) in
+        let one = busy-then s x (e ∷ []) near.looked.goes in
+        let last = busy-one (run s x).state e in
+        let same = busy-alike t (run s x).state e back.alike in
+        let cared = near.looked.further e (may-come (keys_left keys x) t (run s x).state e back free) tries in
+        at-event t x e es near.looked.goes alike cared.turns count (omega (arith, one, last, same, near.fewer))
+        onward.caring rest cared.cared
 
   -- a list that ends among computing steps isn't over
   at-stop : (n count : ℕ) (t : State) (x : List Event) → Near (suc n) count t x
       → Rest b m (keys_left keys x) count t [] → IsTold s told (after_bytes (run s x).bytes (run t []))
   unfolding IsPlain
   at-stop n count t x near rest =
-      over-at (subst (λ (a : After). IsOver (keys_left keys x) a.state) (run-none t) rest.over)
-    where
-      over-at : {G : Type 0} → IsOver (keys_left keys x) t → G
-      over-at (inl ended) = absurd (let no : is_some t.halted ≡ false = ap is_some near.goes in cc)
-      over-at (inr wait) = absurd (busy-idle t near.plain.0 wait.idle)
+      absurd (not-over (keys_left keys x) t near.goes (busy-idle t near.plain.0) rest.over)
 
-  further : (es : List Event) → Further es
-  further [] zero count t x near rest = at-end count t x near rest
-  further [] (suc n) count t x near rest = at-stop n count t x near rest
-  further (e ∷ es) zero count t x near rest = at-next count t x near e es (further es) rest
-  further (e ∷ es) (suc n) count t x near rest = at-plain e es (further es) n count t x near rest
+  further-none : Further []
+  further-none zero count t x near rest = at-end count t x near rest
+  further-none (suc n) count t x near rest = at-stop n count t x near rest
 
-  -- ---- from the beginning
+  further-more : (e : Event) (es : List Event) → Onward es → Further (e ∷ es)
+  further-more e es onward zero count t x near rest = at-next count t x near e es onward rest
+  further-more e es onward (suc n) count t x near rest = at-plain e es onward.further n count t x near rest
 
-  module _ (clock : HasClock s) (es : List Event) (rest : Rest b m keys 0 s es) where
-    begins : (y : List Event) → IsLookedAt b m keys s seen [] told y → ComesAlike b.spin keys s [] y
-        → IsTold s told (run s es)
-    begins y known c =
-        let goes : (run s []).state.halted ≡ None = ap (λ (a : After). a.state.halted) (run-none s) ∙ up in
-        let there : run s c.there ≡ stepped_on c.comes.count (run s []) =
-        comes-run s up b.spin [] c.there c.comes goes in
-        let start : State = s in
-        let plain : IsPlain b.spin s c.comes.count =
-        subst (λ (a : After). IsPlain b.spin a.state c.comes.count) (run-none s) c.comes.plain in
-        let at : run s c.there ≡ stepped_on c.comes.count (quiet s) =
-        there ∙ ap (stepped_on c.comes.count) (run-none s) in
-        let self : BothAlike s s = record { alike = refl; first = clock; second = clock } in
-        let after = after-alike law b.spin c.comes.count s s self plain in
-        let left : keys ≡ keys_left keys y =
-        sym (ap (λ fs. keys_left keys fs) c.comes.same ∙ left-steps keys c.comes.count) ∙ c.leads.typed in
-        let few : busy_ticks s y ≤ 0 =
-        (let same : busy_ticks s c.there ≡ 0 = ap (λ fs. busy_ticks s fs) c.comes.same ∙ busy-steps s c.comes.count in
-        omega (arith, c.leads.fewer, same)) in
-        let none : (run s y).bytes ≡ [] =
-        sym c.leads.like.bytes ∙ ap (λ (a : After). a.bytes) at in
-        let told-on : IsTold s told (after_bytes (run s y).bytes (run s es)) =
-        further es c.comes.count 0 s y
-        (record {
-          looked = known;
-          plain = plain;
-          both = record {
-            alike = ap (λ (a : After). timeless a.state) (sym at) ∙ c.leads.like.alike;
-            first = after.first;
-            second = known.clock;
-          };
-          clock = clock;
-          goes = up;
-          fewer = few;
-        })
-        (subst (λ ks. Rest b m ks 0 s es) left rest) in
-        subst (λ bs. IsTold s told (after_bytes bs (run s es))) none told-on
+  -- ---- where what is alike is cared for
 
-    from : IsCared b keys s seen [] told [] → IsTold s told (run s es)
-    from (inl ends) =
-        absurd (let no : is_some s.halted ≡ false = ap is_some up in
-        let yes : is_some s.halted ≡ true =
-        subst (λ (a : After). is_some a.state.halted ≡ true) (run-none s) ends.ended in cc)
-    from (inr (inl one)) =
+  module _ (es : List Event) (count : ℕ) (t : State) (z : List Event) (level : BothAlike t (run s z).state)
+      (goes : t.halted ≡ None) (fewer : busy_ticks s z ≤ count) where
+    there-goes : (run s z).state.halted ≡ None
+    there-goes = sym (halted-alike t (run s z).state level.alike) ∙ goes
+
+    -- after computing steps it is alike to what was looked at
+    module _ (further : Further es) (rest : Rest b m (keys_left keys z) count t es) (y : List Event)
+        (known : IsLookedAt b m keys s seen [] told y) (c : ComesAlike b.spin keys s z y) where
+      there : run s c.there ≡ stepped_on c.comes.count (run s z)
+      there = comes-run s up b.spin z c.there c.comes there-goes
+
+      busy-there : busy_ticks s c.there ≡ busy_ticks s z
+      busy-there =
+          let more-steps = busy-then s z (steps c.comes.count) there-goes in
+          ap (λ fs. busy_ticks s fs) c.comes.same
+          ∙ omega (arith, more-steps, busy-steps (run s z).state c.comes.count)
+
+      near-known : Near c.comes.count count t y
+      near-known =
+          let plain = plain-alike law b.spin c.comes.count t (run s z).state level c.comes.plain in
+          let after = after-alike law b.spin c.comes.count t (run s z).state level plain in
+          record {
+            looked = known;
+            plain = plain;
+            both = record {
+              alike = after.alike ∙ ap (λ (a : After). timeless a.state) (sym there) ∙ c.leads.like.alike;
+              first = after.first;
+              second = known.clock;
+            };
+            clock = level.first;
+            goes = goes;
+            fewer = omega (arith, c.leads.fewer, busy-there, fewer);
+          }
+
+      typed : keys_left keys z ≡ keys_left keys y
+      typed = sym (ap (λ fs. keys_left keys fs) c.comes.same ∙ left-then keys z (steps c.comes.count)
+          ∙ left-steps _ c.comes.count) ∙ c.leads.typed
+
+      at-known : IsTold s told (after_bytes (run s z).bytes (run t es))
+      at-known =
+          subst (λ bs. IsTold s told (after_bytes bs (run t es)))
+          (sym c.leads.like.bytes ∙ ap (λ (a : After). a.bytes) there)
+          (further c.comes.count count t y near-known (subst (λ ks. Rest b m ks count t es) typed rest))
+
+    at-here : Further es → Rest b m (keys_left keys z) count t es → IsCaredHere b keys s seen [] told z
+        → IsTold s told (after_bytes (run s z).bytes (run t es))
+    at-here further rest (inl ends) = absurd (not-ended z there-goes ends)
+    at-here further rest (inr (inl one)) =
         let found = both-of (λ (p : Path). IsLookedAt b m keys s seen [] told (events_of p))
-        (λ (p : Path). ComesAlike b.spin keys s [] (events_of p)) seen whole.looked one in
-        begins (events_of found.0) found.1 found.2
-    from (inr (inr none)) = absurd none
+        (λ (p : Path). ComesAlike b.spin keys s z (events_of p)) seen whole.looked one in
+        at-known further rest (events_of found.0) found.1 found.2
+    at-here further rest (inr (inr none)) = absurd none
+
+  -- ---- where a turn is due
+
+  module _ (n count : ℕ) (t : State) (z : List Event) (level : BothAlike t (run s z).state)
+      (fewer : busy_ticks s z ≤ count) (due : IsDue (run s z).state)
+      (cared : IsCaredAfter n b keys s seen [] told (z ++ Step ∷ [])) where
+    due-here : IsDue t
+    due-here =
+        due-alike (run s z).state t
+        (record { alike = sym level.alike; first = level.second; second = level.first }) due
+
+    waits : is_idle t ≡ true → ⊥
+    waits idles = let busy : is_idle t ≡ false = due-here.due in cc
+
+    due-step : (es : List Event) → Caring es → Rest b m (keys_left keys z) count t (Step ∷ es)
+        → IsTold s told (after_bytes (run s z).bytes (run t (Step ∷ es)))
+    due-step es caring rest =
+        let one = busy-then s z (Step ∷ []) due.goes in
+        let last = busy-one (run s z).state Step in
+        at-event t z Step es due.goes
+        (law (run s z).state t Step level.second level.first (sym level.alike) (none-asks (run s z).state due.none))
+        n count (omega (arith, one, last, fewer)) caring rest cared
+
+    -- a tick changes nothing but the clock
+    due-tick : (es : List Event) → Caring es → Rest b m (keys_left keys z) count t (Tick ∷ es)
+        → IsTold s told (after_bytes (run s z).bytes (run t (Tick ∷ es)))
+    unfolding IsCaredAfter
+    due-tick es caring rest =
+        let ticks = idle t level.first due-here.none (none-asleep t.places due-here.awake) in
+        let goes : (next t Tick).state.halted ≡ None =
+        sym (halted-alike t (next t Tick).state ticks.alike) ∙ due-here.goes in
+        let on : run t (Tick ∷ es) ≡ run (next t Tick).state es =
+        run-goes t Tick es goes ∙ ap (λ bs. after_bytes bs (run (next t Tick).state es)) (sym ticks.bytes) in
+        subst (λ (a : After). IsTold s told (after_bytes (run s z).bytes a)) (sym on)
+        (caring (suc n) (count + busy_in t Tick) (next t Tick).state z
+        (record { alike = sym ticks.alike ∙ level.alike; first = ticks.second; second = level.second })
+        goes (omega (arith, fewer)) (due, cared)
+        (rest-goes b m (keys_left keys z) count t Tick es goes rest))
+
+    at-due : (e : Event) (es : List Event) → Caring es → Rest b m (keys_left keys z) count t (e ∷ es)
+        → IsTold s told (after_bytes (run s z).bytes (run t (e ∷ es)))
+    at-due Step es caring rest = due-step es caring rest
+    at-due Tick es caring rest = due-tick es caring rest
+    at-due (Key k) es caring rest = absurd (waits (free-first (keys_left keys z) t (Key k) es rest.free).1)
+
+    due-none : Rest b m (keys_left keys z) count t [] → IsTold s told (after_bytes (run s z).bytes (run t []))
+    due-none rest = absurd (not-over (keys_left keys z) t due-here.goes waits rest.over)
+
+  -- ---- all lists
+
+  caring-none : Caring []
+  unfolding IsCaredAfter
+  caring-none zero count t z level goes fewer cared rest = at-here [] count t z level goes fewer further-none rest cared
+  caring-none (suc n) count t z level goes fewer cared rest = due-none n count t z level fewer cared.0 cared.1 rest
+
+  caring-more : (e : Event) (es : List Event) → Onward es → Caring (e ∷ es)
+  unfolding IsCaredAfter
+  caring-more e es onward zero count t z level goes fewer cared rest =
+      at-here (e ∷ es) count t z level goes fewer (further-more e es onward) rest cared
+  caring-more e es onward (suc n) count t z level goes fewer cared rest =
+      at-due n count t z level fewer cared.0 cared.1 e es onward.caring rest
+
+  onward : (es : List Event) → Onward es
+  onward [] = record { further = further-none; caring = caring-none }
+  onward (e ∷ es) = record { further = further-more e es (onward es); caring = caring-more e es (onward es) }
 
   -- what a coarse list shows is told
   pub coarse-told : HasClock s → (es : List Event) → IsFree keys s es → TriedFrom b m 0 s es
       → IsCoarse (ComputesFor b.spin) s es → IsOver (keys_left keys es) (run s es).state → IsTold s told (run s es)
   coarse-told clock es free tried coarse over =
-      from clock es (record { free = free; tried = tried; coarse = coarse; over = over }) whole.begun
+      let begun : BothAlike s (run s []).state =
+      subst (λ (a : After). BothAlike s a.state) (sym (run-none s))
+      (record { alike = refl; first = clock; second = clock }) in
+      let none : (run s []).bytes ≡ [] = ap (λ (a : After). a.bytes) (run-none s) in
+      subst (λ bs. IsTold s told (after_bytes bs (run s es))) none
+      ((onward es).caring whole.begun.turns 0 s [] begun up (omega (arith, busy-none s)) whole.begun.cared
+      (record { free = free; tried = tried; coarse = coarse; over = over }))

@@ -8,6 +8,9 @@ pub mod Shows
 pub mod Typed
 pub mod Moves
 pub mod Opening
+pub mod Turning
 pub mod Looking
 pub mod Complete
 pub mod Reducing
+pub mod Tidy
+pub mod TidyRuns

@@ -1,54 +1,31 @@
 -- A state that is new is looked at.
-use Rattle.std.proofs.Common.{[], ap, append-nil, arith, Bool, false, inl, inr, List, None, Option, refl, Some, subst}
-use Rattle.std.proofs.Common.{suc}
-use Rattle.std.proofs.Common.{sym, true, zero, ℕ, ◌++◌, ◌∙◌, ◌∷◌, ◌≡◌, ◌⊎◌}
-use Rattle.std.specs.List.{list_any}
-use Rattle.std.specs.Prelude.{◌||◌}
+use Rattle.std.proofs.Common.{[], ap, append_assoc, append-nil, arith, inl, inr, List, None, refl, subst, sym, ℕ}
+use Rattle.std.proofs.Common.{◌++◌, ◌∙◌, ◌∷◌, ◌≡◌, ◌⊎◌}
 use Rattle.orders.proofs.Free.{busy-then, left-then}
 use Rattle.orders.proofs.Lists.{one-last}
 use Rattle.orders.proofs.Moves.{going-looked, missed-then}
 use Rattle.orders.proofs.Plain.{comes-none}
-use Rattle.orders.proofs.Runs.{run-more}
+use Rattle.orders.proofs.Runs.{run-more, run-then}
+use Rattle.orders.proofs.Turning.{back-alike, back-due, none-asleep}
 use Rattle.orders.specs.declared.bounds.Bounds.{Bounds}
 use Rattle.orders.specs.declared.bounds.Missed.{Missed}
 use Rattle.orders.specs.declared.paths.Path.{Path}
 use Rattle.orders.specs.declared.told.Outcome.{Outcome}
-use Rattle.orders.specs.Ends.{is_asleep}
 use Rattle.orders.specs.Free.{MayCome, keys_left}
-use Rattle.orders.specs.Looked.{ComesAlike, IsCared, IsGoing, IsOpened, IsTimeIdle, LeadAlike, NotesTime}
-use Rattle.orders.specs.Looked.{OpensKey, OpensStep, OpensTick, TellsWaiting, Tries}
+use Rattle.orders.specs.Looked.{ComesAlike, IsCared, IsCaredAfter, IsCaredHere, IsDue, IsGoing, IsOpened, IsTimeIdle}
+use Rattle.orders.specs.Looked.{IsTurnBack, LeadAlike, NotesTime, OpensKey, OpensStep, OpensTick, TellsWaiting, Tries}
 use Rattle.orders.specs.Paths.{events_of}
 use Rattle.orders.specs.Tried.{busy_ticks}
-use Rattle.schedules.specs.Alike.{HasClock, IdleTickChangesNothing, is_asleep_in, timeless}
+use Rattle.schedules.specs.Alike.{HasClock, IdleTickChangesNothing, TickBackChangesNothing, timeless}
 use Rattle.unixmodel.specs.declared.event.Event.{Event}
 use Rattle.unixmodel.specs.declared.event.Event.TheVariants.{Key, Step, Tick}
 use Rattle.unixmodel.specs.Calls.{After}
-use Rattle.unixmodel.specs.Files.{slot}
-use Rattle.unixmodel.specs.Process.{Process}
-use Rattle.unixmodel.specs.Run.{run}
-use Rattle.unixmodel.specs.State.{State, holds}
+use Rattle.unixmodel.specs.Run.{after_bytes, run}
+use Rattle.unixmodel.specs.State.{State}
 
--- where nobody is found asleep, none sleeps
-none-asleep : (ps : List (Option Process)) → list_any (holds is_asleep) ps ≡ false → (i : ℕ) (p : Process)
-    → slot ps i ≡ Some p → is_asleep_in p.mode ≡ false
-none-asleep [] awake i p at = absurd cc
-none-asleep (None ∷ ps) awake zero p at = absurd cc
-none-asleep (None ∷ ps) awake (suc i) p at = none-asleep ps awake i p at
-none-asleep (Some q ∷ ps) awake zero p at =
-    let same : q ≡ p = cc in
-    subst (λ (r : Process). is_asleep_in r.mode ≡ false) same (left (is_asleep_in q.mode) _ awake)
-  where
-    left : (a b : Bool) → (a || b) ≡ false → a ≡ false
-    left true b h = absurd cc
-    left false b h = refl
-none-asleep (Some q ∷ ps) awake (suc i) p at = none-asleep ps (right (is_asleep_in q.mode) _ awake) i p at
-  where
-    right : (a b : Bool) → (a || b) ≡ false → b ≡ false
-    right true b h = absurd cc
-    right false b h = h
-
-module _ (keys : List ℕ) (s : State) (p : Path) (law : IdleTickChangesNothing) (up : s.halted ≡ None)
-    (goes : (run s (events_of p)).state.halted ≡ None) (clock : HasClock (run s (events_of p)).state) where
+module _ (keys : List ℕ) (s : State) (p : Path) (law : IdleTickChangesNothing) (back : TickBackChangesNothing)
+    (up : s.halted ≡ None) (goes : (run s (events_of p)).state.halted ≡ None)
+    (clock : HasClock (run s (events_of p)).state) where
   abbrev es : List Event
   es = events_of p
 
@@ -68,29 +45,62 @@ module _ (keys : List ℕ) (s : State) (p : Path) (law : IdleTickChangesNothing)
         fewer = (let count = busy-then s es (Tick ∷ []) goes in omega (arith, count));
       }
 
+  -- so do one after which the turn is given back, and that turn
+  back-tick : IsTurnBack (run s es).state → LeadAlike keys s ((es ++ Tick ∷ []) ++ Step ∷ []) es
+  back-tick turns =
+      let x = (run s es).state in
+      let alike = back-alike x turns goes clock back in
+      let both : (es ++ Tick ∷ []) ++ Step ∷ [] ≡ es ++ Tick ∷ Step ∷ [] = append_assoc es (Tick ∷ []) (Step ∷ []) in
+      let more : run s ((es ++ Tick ∷ []) ++ Step ∷ []) ≡ after_bytes (run s es).bytes (run x (Tick ∷ Step ∷ [])) =
+      ap (λ fs. run s fs) both ∙ run-then es (Tick ∷ Step ∷ []) s up goes in
+      record {
+        like = record {
+          bytes = ap (λ (a : After). a.bytes) more ∙ ap (λ bs. (run s es).bytes ++ bs) (sym alike.bytes)
+              ∙ append-nil (run s es).bytes;
+          alike = ap (λ (a : After). timeless a.state) more ∙ sym alike.alike;
+        };
+        typed = ap (λ fs. keys_left keys fs) both ∙ left-then keys es (Tick ∷ Step ∷ []);
+        fewer = (let same = ap (λ fs. busy_ticks s fs) both in
+            let count = busy-then s es (Tick ∷ Step ∷ []) goes in omega (arith, count, same));
+      }
+
+  back-ticks : IsTurnBack (run s es).state → IsDue (run s (es ++ Tick ∷ [])).state
+  back-ticks turns =
+      subst (λ (a : After). IsDue a.state) (sym (run-more es Tick s up goes))
+      (back-due (run s es).state turns goes clock)
+
   module _ (b : Bounds) (seen todo todo1 todo2 todo3 : List Path) (told told' : List Outcome) (m m1 m2 : Missed)
       (h : IsGoing b keys s seen (p ∷ todo) told m)
       (notes : NotesTime (run s es).state m m1) (tells : TellsWaiting keys s told told' es)
       (key : OpensKey keys s todo todo1 p) (tick : OpensTick b keys s todo1 todo2 m1 m2 p)
       (step : OpensStep keys s todo2 todo3 p) where
+    -- what is alike to what is looked at now is cared for
+    known : (fs : List Event) → LeadAlike keys s fs es → IsCaredHere b keys s (seen ++ p ∷ []) todo3 told' fs
+    known fs leads = inr (inl (one-last (λ (q : Path). ComesAlike b.spin keys s fs (events_of q)) seen p
+        (record { there = fs; comes = comes-none b.spin s fs fs refl; leads = leads })))
+
+    opened : (fs : List Event) → IsOpened b.spin s todo3 fs → IsCared b keys s (seen ++ p ∷ []) todo3 told' fs
+    unfolding IsCaredAfter
+    opened fs on = record { turns = 0; cared = inr (inr on) }
+
+    ticked : IsOpened b.spin s todo2 (es ++ Tick ∷ []) ⊎ (IsTimeIdle (run s es).state ⊎ IsTurnBack (run s es).state)
+        → IsCared b keys s (seen ++ p ∷ []) todo3 told' (es ++ Tick ∷ [])
+    unfolding IsCaredAfter
+    ticked (inl on) = opened (es ++ Tick ∷ []) (step.opens.kept b (es ++ Tick ∷ []) on)
+    ticked (inr (inl idle)) = record { turns = 0; cared = known (es ++ Tick ∷ []) (idle-tick idle) }
+    ticked (inr (inr turns)) = record {
+      turns = 1;
+      cared = (back-ticks turns, known ((es ++ Tick ∷ []) ++ Step ∷ []) (back-tick turns));
+    }
+
     cared : (e : Event) → MayCome (keys_left keys es) (run s es).state e
         → Tries b m2 (busy_ticks s es) (run s es).state e
         → IsCared b keys s (seen ++ p ∷ []) todo3 told' (es ++ e ∷ [])
-    cared Step may tries = inr (inr (step.opened b.spin))
+    cared Step may tries = opened (es ++ Step ∷ []) (step.opened b.spin)
     cared Tick may tries =
-        either (tick.opened (subst (λ n. Tries b m2 n (run s es).state Tick) (sym h.ways.0.counted) tries))
-      where
-        either : IsOpened b.spin s todo2 (es ++ Tick ∷ []) ⊎ IsTimeIdle (run s es).state
-            → IsCared b keys s (seen ++ p ∷ []) todo3 told' (es ++ Tick ∷ [])
-        either (inl opened) = inr (inr (step.opens.kept b (es ++ Tick ∷ []) opened))
-        either (inr idle) = inr (inl (one-last (λ (q : Path). ComesAlike b.spin keys s (es ++ Tick ∷ []) (events_of q))
-            seen p (record {
-              there = es ++ Tick ∷ [];
-              comes = comes-none b.spin s (es ++ Tick ∷ []) (es ++ Tick ∷ []) refl;
-              leads = idle-tick idle;
-            })))
-    cared (Key k) may tries = inr (inr (step.opens.kept b (es ++ Key k ∷ []) (tick.opens.kept b (es ++ Key k ∷ [])
-        (key.opened b.spin k may))))
+        ticked (tick.opened (subst (λ n. Tries b m2 n (run s es).state Tick) (sym h.ways.0.counted) tries))
+    cared (Key k) may tries = opened (es ++ Key k ∷ []) (step.opens.kept b (es ++ Key k ∷ [])
+        (tick.opens.kept b (es ++ Key k ∷ []) (key.opened b.spin k may)))
 
     pub looks : IsGoing b keys s (seen ++ p ∷ []) todo3 told' m2
     looks = going-looked b keys s up p seen todo told m h todo3 told' m2

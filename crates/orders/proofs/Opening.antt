@@ -15,7 +15,7 @@ use Rattle.orders.specs.declared.paths.Path.{Path}
 use Rattle.orders.specs.declared.told.Outcome.{Outcome}
 use Rattle.orders.specs.Ends.{AllWait, IsEnding, ShowSame, is_anyone_asleep}
 use Rattle.orders.specs.Free.{IsFree, IsNext, MayCome, is_idle, keys_left}
-use Rattle.orders.specs.Looked.{ComesTo, IsAtBound, IsCounted, IsKnownAt, IsLikeAt, IsTimeIdle, IsWay}
+use Rattle.orders.specs.Looked.{ComesTo, IsAtBound, IsCounted, IsKnownAt, IsLikeAt, IsTimeIdle, IsTurnBack, IsWay}
 use Rattle.orders.specs.Looked.{LeadAlike, Opens, OpensKey, OpensStep, OpensTick, TellsAt, TellsWaiting}
 use Rattle.orders.specs.Paths.{events_of, typed_in}
 use Rattle.orders.specs.Told.{Each, IsSound, IsTold, One, run_more, runs_in, runs_more}
@@ -226,7 +226,14 @@ module _ (b : Bounds) (keys : List ℕ) (s : State) (todo : List Path) (m : Miss
   tick-idle idle = record {
     opens = opens-none keys s todo path;
     missed = missed-same m;
-    opened = λ tries. inr idle;
+    opened = λ tries. inr (inl idle);
+  }
+
+  pub tick-back : IsTurnBack (run s (events_of path)).state → OpensTick b keys s todo todo m m path
+  tick-back turns = record {
+    opens = opens-none keys s todo path;
+    missed = missed-same m;
+    opened = λ tries. inr (inr turns);
   }
 
   -- a late one

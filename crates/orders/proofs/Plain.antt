@@ -7,7 +7,7 @@ use Rattle.orders.proofs.Events.{stepped}
 use Rattle.orders.proofs.Runs.{run-goes, run-none, run-over, run-then}
 use Rattle.orders.specs.Looked.{ComesTo, ComputesUpTo, IsPlain, stepped_on}
 use Rattle.orders.specs.Paths.{steps}
-use Rattle.schedules.proofs.Steps.{step-private}
+use Rattle.schedules.proofs.Steps.{running-stays, step-private}
 use Rattle.schedules.specs.Alike.{Alike, EventKeepsAlike, HasClock, asks, asks_as, asks_at, asks_in, asks_time}
 use Rattle.schedules.specs.Schedules.{ComputesFor, after_steps, computes, computes_as, computes_in, is_done}
 use Rattle.unixmodel.specs.declared.event.Event.{Event}
@@ -155,6 +155,20 @@ plain-then spin (suc m) n s first rest =
     subst (λ k. IsPlain spin s k) same
     (first.0, first.1, plain-then spin m n (next s Step).state first.2 rest)
 
+-- after some, a process runs
+still-runs : (s : State) → computes s ≡ true → is_some (running (next s Step).state) ≡ true
+still-runs s done =
+    let who = who-computes s done in
+    let still : running (next s Step).state ≡ running s =
+    ap (λ (a : After). running a.state) (step-private s who.0 who.1 done) ∙ running-stays s who.0 in
+    ap (λ (o : Option ℕ). is_some o) (still ∙ who.1)
+
+plain-runs : (spin n : ℕ) (s : State) → IsPlain spin s (suc n)
+    → is_some (running (after_steps (suc n) s)) ≡ true
+unfolding IsPlain after_steps
+plain-runs spin zero s plain = still-runs s plain.0
+plain-runs spin (suc n) s plain = plain-runs spin n (next s Step).state plain.2
+
 -- ---- lists of events with such steps
 
 pub comes-none : (spin : ℕ) (s : State) (es fs : List Event) → fs ≡ es → ComesTo spin s es fs
@@ -224,3 +238,21 @@ module _ (s : State) (up : s.halted ≡ None) where
         (subst (λ (a : After). IsPlain spin a.state d.count) (comes-run spin es fs c goes) d.plain);
     same = d.same ∙ ap (λ hs. hs ++ steps d.count) c.same ∙ sym (stepped es c.count d.count);
   }
+
+  -- where nobody runs none of them came
+  pub comes-idle : (spin : ℕ) (es fs : List Event) → ComesTo spin s es fs → (run s fs).state.halted ≡ None
+      → running (run s fs).state ≡ None → fs ≡ es
+  comes-idle spin es fs c goes none = by c.count refl
+    where
+      here : (run s es).state.halted ≡ None
+      here = sym (comes-halted spin es fs c) ∙ goes
+
+      by : (n : ℕ) → c.count ≡ n → fs ≡ es
+      by zero is = c.same ∙ ap (λ k. es ++ steps k) is ∙ append-nil es
+      by (suc n) is = absurd (
+          let runs : is_some (running (run s fs).state) ≡ true =
+          ap (λ (a : After). is_some (running a.state)) (comes-run spin es fs c here)
+          ∙ subst (λ k. is_some (running (after_steps k (run s es).state)) ≡ true) (sym is)
+          (plain-runs spin n (run s es).state (subst (λ k. IsPlain spin (run s es).state k) is c.plain)) in
+          let idle : is_some (running (run s fs).state) ≡ false = ap (λ (o : Option ℕ). is_some o) none in
+          cc)

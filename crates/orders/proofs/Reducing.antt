@@ -19,7 +19,7 @@ use Rattle.orders.specs.Tried.{IsPrompt, IsPromptIn, IsTried, busy_in, busy_tick
 use Rattle.orders.specs.Tried.{sleeps_on_in, zero_if_halted}
 use Rattle.schedules.proofs.Turns.{runs-in, turn-timely}
 use Rattle.schedules.proofs.Views.{IsTimely, View, mode_in, places_in, state_in}
-use Rattle.schedules.specs.Alike.{EventKeepsAlike, HasClock}
+use Rattle.schedules.specs.Alike.{EventKeepsAlike, HasClock, IdleTickChangesNothing}
 use Rattle.schedules.specs.Coarse.{InterruptsWithinSuffice, Interruption, Reduced, ShowsSame, interruptions, interrupts}
 use Rattle.schedules.specs.Coarse.{none_if_halted, nothing, shown}
 use Rattle.schedules.specs.Holding.{holding}
@@ -255,7 +255,7 @@ show-same a b same = record {
 }
 
 module _ (b : Bounds) (m : Missed) (keys : List ℕ) (s : State) (seen : List Path) (told : List Outcome)
-    (law : EventKeepsAlike) (suffice : InterruptsWithinSuffice) (up : s.halted ≡ None)
+    (law : EventKeepsAlike) (idle : IdleTickChangesNothing) (suffice : InterruptsWithinSuffice) (up : s.halted ≡ None)
     (whole : IsWhole b m keys s seen [] told) (clock : HasClock s) where
   reduced-told : (es : List Event) → IsEnding keys s es → IsTried b m s es
       → Reduced (ComputesFor b.spin) s es → IsTold s told (run s es)
@@ -265,7 +265,7 @@ module _ (b : Bounds) (m : Missed) (keys : List ℕ) (s : State) (seen : List Pa
       let left : keys_left keys r.coarse ≡ keys_left keys es =
       left-interrupts keys r.coarse ∙ ap (λ is. keys_left keys is) r.same ∙ sym (left-interrupts keys es) in
       told-same s told (run s es) (run s r.coarse) (show-same (run s r.coarse) (run s es) r.shows)
-      (coarse-told b m keys s seen told law up whole clock r.coarse
+      (coarse-told b m keys s seen told law idle up whole clock r.coarse
       (by-free keys s r.coarse (subst (FreeBy keys) (sym r.meet) (free-by keys s es ending.free)))
       (record {
         few = λ on most bound. omega (arith, tried.few on most bound, busy);
@@ -280,11 +280,12 @@ module _ (b : Bounds) (m : Missed) (keys : List ℕ) (s : State) (seen : List Pa
 
 -- the search is at its end
 pub all-tried : (b : Bounds) (keys : List ℕ) (s : State) (seen todo : List Path) (told : List Outcome) (m n : Missed)
-    → EventKeepsAlike → InterruptsWithinSuffice → s.halted ≡ None → HasClock s → IsGoing b keys s seen todo told m
-    → todo ≡ [] → n ≡ m → is_ticks_alone n ≡ true → IsCompleteAsTried b n keys s told
-all-tried b keys s seen todo told m n law suffice up clock h none same alone =
+    → EventKeepsAlike → IdleTickChangesNothing → InterruptsWithinSuffice → s.halted ≡ None → HasClock s
+    → IsGoing b keys s seen todo told m → todo ≡ [] → n ≡ m → is_ticks_alone n ≡ true
+    → IsCompleteAsTried b n keys s told
+all-tried b keys s seen todo told m n law idle suffice up clock h none same alone =
     subst (λ (k : Missed). IsCompleteAsTried b k keys s told) (sym same)
-    (complete-as-tried b m keys s seen told law suffice up
+    (complete-as-tried b m keys s seen told law idle suffice up
     (subst (λ ps. IsWhole b m keys s seen ps told) none
     (h.whole (subst (λ (k : Missed). is_ticks_alone k ≡ true) same alone))) clock)
 

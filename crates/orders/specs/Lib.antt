@@ -5,3 +5,4 @@ pub mod Tried
 pub mod Paths
 pub mod Told
 pub mod Looked
+pub mod Tidy

@@ -6,7 +6,7 @@ use Rattle.orders.specs.declared.bounds.Missed.{Missed}
 use Rattle.orders.specs.declared.paths.Path.{Path}
 use Rattle.orders.specs.declared.told.Outcome.{Outcome}
 use Rattle.orders.specs.Ends.{AllWait, IsEnding, is_anyone_asleep}
-use Rattle.orders.specs.Free.{IsFree, MayCome, keys_left}
+use Rattle.orders.specs.Free.{IsFree, MayCome, is_idle, keys_left}
 use Rattle.orders.specs.Missed.{is_ticks_alone}
 use Rattle.orders.specs.Paths.{events_of, steps, typed_in}
 use Rattle.orders.specs.Told.{Each, IsSound, IsTold, One, runs_in}
@@ -17,8 +17,9 @@ use Rattle.unixmodel.specs.declared.event.Event.{Event}
 use Rattle.unixmodel.specs.declared.event.Event.TheVariants.{Key, Step, Tick}
 use Rattle.unixmodel.specs.Calls.{After}
 use Rattle.unixmodel.specs.Next.{next}
-use Rattle.unixmodel.specs.Run.{run}
-use Rattle.unixmodel.specs.State.{State, running}
+use Rattle.unixmodel.specs.Process.{Process}
+use Rattle.unixmodel.specs.Run.{picked_by, run}
+use Rattle.unixmodel.specs.State.{State, process_at, running}
 
 -- ---- computing steps
 
@@ -74,10 +75,39 @@ IsOpened spin s todo es = One (λ (p : Path). ComesTo spin s es (events_of p)) t
 
 -- What a list of events leads to is cared for: process 1 ends and that is told, it is alike to what was looked at, or
 -- it will be looked at.
-abbrev pub IsCared : Bounds → List ℕ → State → List Path → List Path → List Outcome → List Event → Type 0
-IsCared b keys s seen todo told es =
+abbrev pub IsCaredHere : Bounds → List ℕ → State → List Path → List Path → List Outcome → List Event → Type 0
+IsCaredHere b keys s seen todo told es =
     EndsTold s told es
     ⊎ (One (λ (p : Path). ComesAlike b.spin keys s es (events_of p)) seen ⊎ IsOpened b.spin s todo es)
+
+-- nobody runs and none sleeps, but somebody is ready: a turn is due
+pub record IsDue (s : State) : Type 0 where
+  pub goes : s.halted ≡ None
+  pub clock : HasClock s
+  pub none : running s ≡ None
+  pub awake : is_anyone_asleep s ≡ false
+  pub due : is_idle s ≡ false
+
+-- what comes of it after n turns, each of which is due, is cared for
+unfoldable pub IsCaredAfter : ℕ → Bounds → List ℕ → State → List Path → List Path → List Outcome → List Event
+    → Type 0
+IsCaredAfter zero b keys s seen todo told es = IsCaredHere b keys s seen todo told es
+IsCaredAfter (suc n) b keys s seen todo told es =
+    IsDue (run s es).state × IsCaredAfter n b keys s seen todo told (es ++ Step ∷ [])
+
+pub record IsCared (b : Bounds) (keys : List ℕ) (s : State) (seen todo : List Path) (told : List Outcome)
+    (es : List Event) : Type 0 where
+  pub turns : ℕ
+  pub cared : IsCaredAfter turns b keys s seen todo told es
+
+-- the path itself, or with the turn that is due there
+abbrev pub IsTurnTaken : State → Path → Path → Type 0
+IsTurnTaken s path there = (events_of there ≡ events_of path)
+    ⊎ (IsDue (run s (events_of path)).state × (events_of there ≡ events_of path ++ Step ∷ []))
+
+pub record TakesTurn (s : State) (path there : Path) : Type 0 where
+  pub busy : there.busy ≡ path.busy
+  pub taken : IsTurnTaken s path there
 
 -- an event is tried, after so many timer interrupts that came while a process ran
 pub record Tries (b : Bounds) (m : Missed) (count : ℕ) (s : State) (e : Event) : Type 0 where
@@ -182,17 +212,29 @@ pub record IsTimeIdle (s : State) : Type 0 where
   pub none : running s ≡ None
   pub awake : is_anyone_asleep s ≡ false
 
+-- a tick, and the turn after it, change nothing but the clock: the process that runs is picked again, and none sleeps
+pub record IsTurnBack (s : State) : Type 0 where
+  pub place : ℕ
+  pub process : Process
+  pub runs : running s ≡ Some place
+  pub there : process_at s place ≡ Some process
+  pub alive : process.killed ≡ false
+  pub last : s.last ≡ place
+  pub awake : is_anyone_asleep s ≡ false
+  pub again : picked_by (next s Tick).state Step ≡ Some place
+
 -- so many timer interrupts that came while a process ran are as many as the bound
 abbrev pub IsAtBound : Bounds → ℕ → Type 0
 IsAtBound b count = (most : ℕ) × (b.ticks ≡ Some most) × (most ≤ count)
 
--- the path with a timer interrupt, if it is tried, unless it changes nothing
+-- the path with a timer interrupt, if it is tried, unless it changes nothing, or nothing that the turn after it leaves
 pub record OpensTick (b : Bounds) (keys : List ℕ) (s : State) (old new : List Path) (before after : Missed)
     (path : Path) : Type 0 where
   pub opens : Opens keys s old new path
   pub missed : KeepsMissed before after
   pub opened : Tries b after path.busy (run s (events_of path)).state Tick
-      → IsOpened b.spin s new (events_of path ++ Tick ∷ []) ⊎ IsTimeIdle (run s (events_of path)).state
+      → IsOpened b.spin s new (events_of path ++ Tick ∷ [])
+      ⊎ (IsTimeIdle (run s (events_of path)).state ⊎ IsTurnBack (run s (events_of path)).state)
 
 -- it is noted where the time is asked for
 pub record NotesTime (s : State) (before after : Missed) : Type 0 where

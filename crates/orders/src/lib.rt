@@ -7,6 +7,7 @@
 #![tactic(auto)]
 
 mod bounds;
+mod laws;
 mod paths;
 mod progress;
 mod search;
@@ -15,6 +16,7 @@ mod told;
 mod walker;
 
 pub use bounds::{Bounds, Missed, Task, Trouble};
+pub use laws::tables_stay_tidy;
 pub use paths::{Interrupt, Path, Piece};
 pub use progress::{Progress, Standing, Unwatched};
 pub use search::{Found, find_outcomes};

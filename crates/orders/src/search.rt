@@ -2,8 +2,8 @@
 ghost use Rattle.std.specs.Prelude.{◌≡◌, ◌<◌, ◌∷◌, [], List, ℕ, IfOk, IfSome, None, OnOk, is_some, length, true};
 ghost use Rattle.orders.specs.Ends.{AllWait, ShowSame};
 ghost use Rattle.orders.specs.Free.{keys_left};
-ghost use Rattle.orders.specs.Looked.{ComesTo, IsAtBound, IsGoing, IsKnownAt, IsLikeAt, NotesTime};
-ghost use Rattle.orders.specs.Looked.{OpensKey, OpensStep, OpensTick, TellsAt, TellsWaiting};
+ghost use Rattle.orders.specs.Looked.{ComesTo, IsAtBound, IsDue, IsGoing, IsKnownAt, IsLikeAt, NotesTime};
+ghost use Rattle.orders.specs.Looked.{OpensKey, OpensStep, OpensTick, TakesTurn, TellsAt, TellsWaiting};
 ghost use Rattle.orders.specs.Missed.{is_nothing, is_ticks_alone};
 ghost use Rattle.orders.specs.Paths.{events_of};
 ghost use Rattle.orders.specs.Told.{Each, IsComplete, IsCompleteAsTried, IsSound, IsTold};
@@ -262,7 +262,7 @@ fn is_at_bound(bounds: &Bounds, path: &Path) -> bool
     }
 }
 
-// Opens the path with a timer interrupt where a process runs.
+// Opens the path with a timer interrupt where a process runs, if the turn after it isn't given back.
 fn open_busy_tick<W: Walker>(
     todo: &mut VecDeque<Path>,
     missed: &mut Missed,
@@ -275,6 +275,9 @@ fn open_busy_tick<W: Walker>(
     ensures { (keys : List ℕ) → OnOk result (OpensTick bounds.now keys (W.start walker.now) todo.old.items
         todo.new.items missed.old missed.new path.now) }
 {
+    if walker.gives_turn_back() {
+        return Ok(());
+    }
     if is_at_bound(bounds, path) {
         missed.ticks = true;
         return Ok(());
@@ -416,6 +419,30 @@ fn meet<W: Walker>(
     look(search, walker, other, task, Place { path, digest })
 }
 
+// Whether no process runs and none sleeps, but some is ready, so that the turn alone matters.
+fn is_turn_due<W: Walker>(walker: &W) -> bool
+    requires { (W.reached walker.now).state.halted ≡ None }
+    ensures { result ≡ true → IsDue (W.reached walker.now).state }
+{
+    if walker.is_running() || walker.is_idle() {
+        return false;
+    }
+    walker.has_clock();
+    !walker.is_anyone_asleep()
+}
+
+// Goes along a path, and on with the turn if one is due there. Returns the path to that.
+fn take_turn<W: Walker>(walker: &mut W, path: Path) -> Result<Path, Trouble>
+    ensures taken { IfOk result (TakesTurn (W.start walker.old) path) }
+    ensures start { W.start walker.new ≡ W.start walker.old }
+{
+    let status = walker.go(&path)?;
+    if status.is_some() || !is_turn_due(walker) {
+        return Ok(path);
+    }
+    path.stepped(1)
+}
+
 // Goes along a path and looks at what it leads to: an end, or a state.
 fn visit<W: Walker>(
     search: &mut Search,
@@ -439,6 +466,27 @@ fn visit<W: Walker>(
     }
     let there = come_to_call(walker, path, task.bounds.spin)?;
     meet(search, walker, other, task, there)
+}
+
+// Goes along a path, and on with the turn that is due there, and looks at what that leads to.
+fn visit_next<W: Walker>(
+    search: &mut Search,
+    walker: &mut W,
+    other: &mut W,
+    task: Task,
+    path: Path,
+) -> Result<(), Trouble>
+    requires up { (W.start walker.old).halted ≡ None }
+    requires start { W.start other.old ≡ W.start walker.old }
+    requires going { IsGoing task.bounds task.keys.now (W.start walker.old) search.old.seen.paths.items
+        (path ∷ search.old.todo.items) search.old.told.items search.old.missed }
+    ensures going { OnOk result (IsGoing task.entry.bounds task.entry.keys.now (W.start walker.old)
+        search.new.seen.paths.items search.new.todo.items search.new.told.items search.new.missed) }
+    ensures start { W.start walker.new ≡ W.start walker.old }
+    ensures other_start { W.start other.new ≡ W.start other.old }
+{
+    let there = take_turn(walker, path)?;
+    visit(search, walker, other, task, there)
 }
 
 // Goes to where a walker began. Process 1 had not ended there.
@@ -513,6 +561,7 @@ pub fn find_outcomes<W: Walker, P: Progress>(
     begin(alloc, walker)?;
     schedules::alike_goes_on_alike();
     schedules::interrupts_before_calls_suffice();
+    schedules::idle_tick_changes_nothing();
     let mut search = Search {
         todo: VecDeque::new(alloc),
         seen: Seen::new(alloc),
@@ -527,7 +576,7 @@ pub fn find_outcomes<W: Walker, P: Progress>(
         let Some(path) = search.todo.pop_front() else {
             break 'path;
         };
-        visit(&mut search, walker, other, task, path)?;
+        visit_next(&mut search, walker, other, task, path)?;
     }
     let missed = with_rest(&search.todo, search.missed);
     let Search { seen, told, .. } = search;

@@ -2,7 +2,7 @@
 ghost use Rattle.std.specs.Prelude.{◌≡◌, IfOk, OnOk, false, is_some, true};
 ghost use Rattle.orders.specs.Ends.{ShowSame, is_anyone_asleep};
 ghost use Rattle.orders.specs.Free.{is_idle};
-ghost use Rattle.orders.specs.Looked.{ComputesUpTo, IsLike, stepped_on};
+ghost use Rattle.orders.specs.Looked.{ComputesUpTo, IsLike, IsTurnBack, stepped_on};
 ghost use Rattle.orders.specs.Paths.{events_of};
 ghost use Rattle.orders.specs.Tried.{is_time_awaited};
 ghost use Rattle.schedules.specs.Alike.{HasClock, asks_time};
@@ -43,6 +43,11 @@ pub trait Walker {
     /// Whether some process waits in `sleep` for a time that isn't over. A no is right.
     fn is_time_awaited(&self) -> bool
         ensures { result ≡ false → is_time_awaited (reached self.now).state ≡ false };
+
+    /// Whether the process that runs would be picked again after a timer interrupt, and none sleeps: then interrupt and
+    /// turn change the clock alone. A yes is right.
+    fn gives_turn_back(&self) -> bool
+        ensures { result ≡ true → IsTurnBack (reached self.now).state };
 
     /// Does steps that compute, up to a call or a fault, which isn't done, and at most so many. Returns how many.
     fn compute(&mut self, most: u32) -> Result<u32, Trouble>

@@ -1,4 +1,4 @@
-use Rattle.std.proofs.Common.{ap, not, refl, sym, ◌∙◌}
+use Rattle.std.proofs.Common.{ap, not, refl, ◌∙◌}
 use Rattle.explore.proofs.Comparing.{by-bytes, none-by, same-unnamed}
 use Rattle.explore.specs.Both.{named_of}
 use Rattle.unixmodel.specs.Files.{slot}

@@ -1,4 +1,4 @@
-use Rattle.std.proofs.Common.{refl, sym}
+use Rattle.std.proofs.Common.{refl}
 use Rattle.explore.proofs.Comparing.{same-piece}
 use Rattle.explore.proofs.saved.same_piece.Goals as goal
 

@@ -1,4 +1,4 @@
-use Rattle.std.proofs.Common.{refl, true, ◌≡◌}
+use Rattle.std.proofs.Common.{true, ◌≡◌}
 use Rattle.explore.proofs.Comparing.{apart-since, both-since, files-more}
 use Rattle.orders.specs.Ends.{saved_as}
 use Rattle.unixmodel.specs.Files.{slot}

@@ -1,4 +1,4 @@
-use Rattle.std.proofs.Common.{refl, true, ◌≡◌}
+use Rattle.std.proofs.Common.{true, ◌≡◌}
 use Rattle.orders.proofs.Moves.{going-begun}
 use Rattle.orders.proofs.Reducing.{all-told, all-tried}
 use Rattle.orders.proofs.search.find_outcomes.Given.{Over}
@@ -33,7 +33,8 @@ tried g c alone =
           rw (w.search-is, ← w.in_default.ensures.items) c.path.invariant.going
     ] in
     all-tried c.args.task.bounds c.args.task.keys.now s _ _ _ _ _ c.alike_goes_on_alike.ensures.event
-    c.interrupts_before_calls_suffice.ensures.within c.in_ok-begin.ensures.up c.in_ok-begin.ensures.clock going
+    c.idle_tick_changes_nothing.ensures.idle c.interrupts_before_calls_suffice.ensures.within
+    c.in_ok-begin.ensures.up c.in_ok-begin.ensures.clock going
     (c.with_rest-missed.ensures.none alone) (c.with_rest-missed.ensures.missed alone) alone
 
 pub returns-clause-tried : goal.returns-clause-tried

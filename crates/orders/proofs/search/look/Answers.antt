@@ -23,6 +23,7 @@ returns-clause-going g c =
     c.open_tick.new.todo.items c.note_time.new.missed c.open_tick.new.missed c.args.place.path =
     rw (← c.in_ok-tell_waiting.ensures.start) (c.in_ok-open_tick.ensures c.args.task.keys.now) in
     rw c.in_ok-put.ensures
-    (looks c.args.task.keys.now s c.args.place.path c.idle_tick_changes_nothing.ensures.idle c.requires.up goes clock
-    c.args.task.bounds _ _ _ _ _ _ _ _ _ _ c.requires.going notes c.in_ok-tell_waiting.ensures.told key tick
+    (looks c.args.task.keys.now s c.args.place.path c.idle_tick_changes_nothing.ensures.idle
+    c.idle_tick_changes_nothing.ensures.back c.requires.up goes clock c.args.task.bounds _ _ _ _ _ _ _ _ _ _
+    c.requires.going notes c.in_ok-tell_waiting.ensures.told key tick
     (c.in_ok-open_step.ensures c.args.task.keys.now s))

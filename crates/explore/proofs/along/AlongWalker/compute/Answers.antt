@@ -9,6 +9,7 @@ invariant_of-self-2 g c = record {
       c.in_ok-stopped.stopped (sym c.if-is_some.ensures) c.in_ok-stopped.ensures c.compute-count.ensures.computes
       c.args.self.now.first.now c.take-last.result c.in_ok-self.field-0 c.compute-count.ensures.same
       (rw c.take-last.ensures.value c.args.self.now.is_there) c.in_ok-self.ensures;
+  is_tidy = c.args.self.now.is_tidy;
 }
 
 pub returns : goal.returns

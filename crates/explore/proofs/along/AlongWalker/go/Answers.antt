@@ -1,5 +1,5 @@
 use Rattle.std.proofs.Common.{[], ap, Ok, refl}
-use Rattle.explore.proofs.Walking.{halts, kept-there, went}
+use Rattle.explore.proofs.Walking.{kept-there, went}
 use Rattle.machine.specs.View.{View}
 use Rattle.orders.specs.Paths.{events_of}
 use Rattle.explore.proofs.along.AlongWalker.go.Goals as goal
@@ -13,6 +13,7 @@ invariant_of-self-2 g c = record {
       (kept-there c.args.path.now c.args.self.now.first.now c.go_on.new.self.machine
       c.go_on.new.self.printed.inner.items c.in_ok-status.status c.in_ok-self.field-0 c.in_ok-status.ensures.goes
       c.in_ok-self.ensures);
+  is_tidy = rw c.go_on.ensures.first c.args.self.now.is_tidy;
 }
 
 pub returns : goal.returns
