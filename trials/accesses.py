@@ -25,7 +25,7 @@ from measure import Failed
 from rows import full_with_init, naming, session
 
 # What the program is built on, as a line of crates.txt says it.
-LISTED = "accesses: blockdev console image machine sv39 scripts unixmodel\n"
+LISTED = "accesses: blockdev console image machine sv39 events unixmodel\n"
 
 # Where a block that was read comes into the cache. Without it the cache passes everything through, as where there is no memory.
 HOLDING = re.compile(r"let _ =\s*self\s*\.held\s*\.get_or_insert\(\s*n,[^;]*\);")

@@ -17,6 +17,7 @@ import time
 HERE = pathlib.Path(__file__).resolve().parent
 TOP = HERE.parent.parent
 EXAMPLES = TOP / "examples" / "c"
+RACES = TOP / "examples" / "races"
 COMPILER = "riscv64-unknown-elf-gcc"
 FLAGS = (
     "-march=rv64im -mabi=lp64 -mcmodel=medany -mstrict-align -msmall-data-limit=0 -ffreestanding -fno-builtin -O1 -g -Wall -Wextra "
@@ -26,11 +27,13 @@ FLAGS = (
 
 @dataclasses.dataclass(frozen=True)
 class Trial:
-    """A debugger's script, the programs of the image, of which the first is /init, the machine's script, and the most seconds."""
+    """A debugger's script, the programs of the image, of which the first is /init, the machine's script, and the most seconds.
+
+    Without a machine's script it is that of the last outcome that `explore` finds."""
 
     name: str
     programs: tuple
-    events: str = "step 400000"
+    events: str | None = "step 400000"
     debugger: str = "gdb"
     limit: float = 60.0
 
@@ -47,6 +50,7 @@ TRIALS = [
     Trial("times", ("ring",)),
     Trial("condition", ("loop",), events="step 36060000", limit=5.0),
     Trial("typed", ("reads",), events="step 1000"),
+    Trial("race", ("counter",), events=None),
     Trial("lldb", ("reads",), events="step 1000", debugger="lldb"),
 ]
 
@@ -54,10 +58,16 @@ TRIALS = [
 SETTINGS = ["set pagination off", "set width 0", "set style enabled off", "source lines.gdb"]
 
 
+def source_of(name):
+    """The file NAME.c: here, or among the races."""
+    here = HERE / f"{name}.c"
+    return here if here.exists() else RACES / f"{name}.c"
+
+
 def compile_program(name, folder):
     """Compiles NAME.c: DIR/NAME.elf has its symbols, and DIR/NAME none."""
     whole = folder / f"{name}.elf"
-    words = [COMPILER, *FLAGS, "-T", EXAMPLES / "program.ld", "-I", EXAMPLES, EXAMPLES / "start.S", f"{name}.c", "-o", whole]
+    words = [COMPILER, *FLAGS, "-T", EXAMPLES / "program.ld", "-I", EXAMPLES, EXAMPLES / "start.S", source_of(name), "-o", whole]
     subprocess.run(words, check=True, cwd=HERE)
     subprocess.run(["riscv64-unknown-elf-strip", "-o", folder / name, whole], check=True)
 
@@ -73,6 +83,14 @@ def make_image(program, names, folder):
     image = f"{first}.img"
     subprocess.run([program, "mkfs", "manifest", image], check=True, cwd=folder)
     return image
+
+
+def script_of(program, trial, image, folder):
+    """The machine's script of a trial."""
+    if trial.events is not None:
+        return trial.events + "\n"
+    subprocess.run([program, "explore", "--scripts", "found", image], stdout=subprocess.DEVNULL, stderr=subprocess.DEVNULL, cwd=folder)
+    return max((folder / "found").iterdir()).read_text()
 
 
 def printed(words, folder):
@@ -117,13 +135,13 @@ def by_lldb(script, image, folder):
 def debug(program, trial, folder):
     """What a debugger prints, without what differs from run to run, and the seconds that it takes."""
     image = make_image(program, trial.programs, folder)
-    (folder / "script").write_text(trial.events + "\n")
+    (folder / "script").write_text(script_of(program, trial, image, folder))
     (folder / "xv6").symlink_to(program)
     script = HERE / f"{trial.name}.{trial.debugger}"
     begun = time.monotonic()
     text = by_gdb(program, script, image, folder) if trial.debugger == "gdb" else by_lldb(script, image, folder)
     seconds = time.monotonic() - begun
-    for path in (folder, HERE, EXAMPLES):
+    for path in (folder, HERE, EXAMPLES, RACES):
         text = text.replace(f"{path}/", "")
     return text, seconds
 

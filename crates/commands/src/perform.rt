@@ -7,7 +7,7 @@ use hosts::{Failure, Host, Screen, print, read, tell};
 use image::Summary;
 use image_commands::{assembling, images, openings, program_files};
 use jobfiles::named_twice;
-use run_commands::{Cleared, Meter, plays, scripted, sessions};
+use run_commands::{Cleared, Meter, Setting, plays, scripted, sessions};
 use std::alloc::Global;
 use std::fmt;
 use std::io::Write;
@@ -90,16 +90,16 @@ fn tells_faults<H: Host>(job: &Job<'_>, host: &H) -> bool {
 
 // Does the job, whose console's bytes and what is found or listed go to an output that clears the meter's line.
 fn perform_on<H: Host, S: Screen, W: Write, E: Write>(
-    alloc: Global,
+    setting: Setting<'_, S>,
     job: &Job<'_>,
     host: &mut H,
-    meter: &Meter<S>,
     stdout: &mut W,
     stderr: &mut E,
 ) -> u8 {
+    let alloc = setting.alloc;
     match *job {
-        Job::Flat(words) => scripted::flat(alloc, words, host, meter, stdout, stderr),
-        Job::Run(words) => scripted::run(alloc, words, host, meter, stdout, stderr),
+        Job::Flat(words) => scripted::flat(setting, words, host, stdout, stderr),
+        Job::Run(words) => scripted::run(setting, words, host, stdout, stderr),
         Job::Mkfs(words) => perform_mkfs(alloc, words, host, stderr),
         Job::Check(words) => perform_telling(images::check(alloc, words, host), stdout, stderr),
         Job::Ls(words) => perform_quietly(images::ls(alloc, words, host, stdout), stderr),
@@ -115,9 +115,9 @@ fn perform_on<H: Host, S: Screen, W: Write, E: Write>(
             program_files::dump(alloc, words, host, stdout),
             stderr,
         ),
-        Job::Live(words) => sessions::perform(alloc, words, host, meter, stdout, stderr),
-        Job::Play(words) => plays::perform(alloc, words, host, meter, stdout, stderr),
-        Job::Trace(words) => tracing::perform(alloc, words, host, meter, stdout, stderr),
+        Job::Live(words) => sessions::perform(setting, words, host, stdout, stderr),
+        Job::Play(words) => plays::perform(setting, words, host, stdout, stderr),
+        Job::Trace(words) => tracing::perform(setting, words, host, stdout, stderr),
         Job::Gdb(words) => gdb_command::perform(alloc, words, host, stdout, stderr),
         Job::GdbInit => gdb_command::print_init_lines(stdout, stderr),
         Job::Explore(words) => explore_command::perform(alloc, words, host, stdout, stderr),
@@ -141,5 +141,9 @@ pub fn perform<H: Host, W: Write, E: Write>(
     }
     let meter = Meter::new(screen_of(job, host));
     let mut stdout = Cleared::new(stdout, &meter, tells_faults(job, host));
-    perform_on(alloc, job, host, &meter, &mut stdout, stderr)
+    let setting = Setting {
+        alloc,
+        meter: &meter,
+    };
+    perform_on(setting, job, host, &mut stdout, stderr)
 }

@@ -1,5 +1,5 @@
 -- What a source wants, piece by piece.
-use Rattle.std.proofs.Common.{[], ap, append-nil, append_assoc, arith, Err, le_trans, length, List, map, Ok, Option}
+use Rattle.std.proofs.Common.{[], ap, append-nil, append_assoc, arith, Err, length, List, map, Ok, Option}
 use Rattle.std.proofs.Common.{refl, replicate, Result, subst, sym, ℕ, ◌+◌, ◌++◌, ◌-◌, ◌<◌, ◌∙◌, ◌∷◌, ◌≡◌, ◌≤◌, None}
 use Rattle.std.proofs.Common.{drop, get_or, take, take-append-drop}
 use Rattle.std.proofs.lemmas.List.{length-map, replicate-append-replicate, take_all}
@@ -8,23 +8,23 @@ use Rattle.calls.specs.declared.halt.Halt.{Halt}
 use Rattle.driver.proofs.Common.{press-next}
 use Rattle.driver.proofs.Tails.{shown-appends}
 use Rattle.driver.proofs.Walking.{IsSoFar, far-all, far-flushed, far-gives, far-none, far-state, far-then, far-up}
-use Rattle.driver.specs.Driven.{Gives, IsDriven, IsServed, Printed, Serves, halts, no_steps, spot_at}
+use Rattle.driver.specs.Driven.{Gives, IsDriven, IsServed, Printed, Serves, no_steps, spot_at}
 use Rattle.driver.specs.Spots.{Leads, Spot}
-use Rattle.driver.specs.Wanted.{Asks, line_keys}
+use Rattle.driver.specs.Wanted.{Asks}
 use Rattle.driver.specs.declared.wanted.Walked.{Walked}
 use Rattle.driver.specs.declared.wanted.Wanted.{Wanted}
 use Rattle.driver.specs.declared.wanted.Wanted.TheVariants.{End, Keys, Line, Nothing, Set, Steps, Ticks, WriteOut}
-use Rattle.events.specs.Records.{Records}
+use Rattle.events.specs.Records.{Kept, Records}
 use Rattle.machine.specs.Gives.{RunGives}
 use Rattle.machine.specs.View.{IsUp, View}
-use Rattle.playtext.specs.declared.clock.Clock.{Clock}
-use Rattle.playtext.specs.declared.grammar.Goal.{Goal}
+use Rattle.events.specs.declared.clock.Clock.{Clock}
+use Rattle.events.specs.declared.grammar.Goal.{Goal}
 use Rattle.unixmodel.specs.Failures.{Rises}
 use Rattle.unixmodel.specs.declared.event.Event.{Event}
 use Rattle.unixmodel.specs.declared.event.Event.TheVariants.{Key, Tick}
 
 -- events that a machine was given
-pub gives-run : {events : List Event} {old new : View} {from to : Printed} {kept keeps : Option (List Event)}
+pub gives-run : {events : List Event} {old new : View} {from to : Printed} {kept keeps : Option Kept}
     {r : Result (Unit {0}) Halt} → Records kept keeps events
     → RunGives old new events from.contents to.contents (Rises from.failed to.failed) r → from.failed ≤ to.failed
     → Gives events old new from to kept keeps r
@@ -32,9 +32,9 @@ gives-run records runs later = record { records = records; runs = runs; later = 
 
 -- ---- ticks
 
-module _ {times made : ℕ} {old now : View} {from mid : Printed} {kept keeps : Option (List Event)}
+module _ {times made : ℕ} {old now : View} {from mid : Printed} {kept keeps : Option Kept}
     (h : IsSoFar (replicate made Tick) old now from mid kept keeps) (within : made ≤ times) {count : ℕ}
-    (few : count ≤ times - made) {new : View} {to : Printed} {last : Option (List Event)} where
+    (few : count ≤ times - made) {new : View} {to : Printed} {last : Option Kept} where
   ticks-then : {r : Result (Unit {0}) Halt} → Gives (replicate count Tick) now new mid to keeps last r
       → Gives (replicate (made + count) Tick) old new from to kept last r
   ticks-then {r} g = subst (λ (es : List Event). Gives es old new from to kept last r)
@@ -58,7 +58,7 @@ module _ {times made : ℕ} {old now : View} {from mid : Printed} {kept keeps : 
         );
       }
 
-pub ticks-end : {times made : ℕ} {old now : View} {from mid : Printed} {kept keeps : Option (List Event)}
+pub ticks-end : {times made : ℕ} {old now : View} {from mid : Printed} {kept keeps : Option Kept}
     {goal : Option Goal} {keys : List ℕ} {before after : Clock} {w : Walked}
     → IsSoFar (replicate made Tick) old now from mid kept keeps → made ≤ times → times ≤ made → after ≡ before
     → Serves (Ticks times) goal keys old now from mid kept keeps before after (Ok w)
@@ -69,8 +69,8 @@ ticks-end {times} {made} h within all same =
 -- ---- keys
 
 module _ (keys : List ℕ) (i : ℕ) (within : i < length keys) {old now : View} {from mid : Printed}
-    {kept keeps : Option (List Event)} (h : IsSoFar (take i (map Key keys)) old now from mid kept keeps) {new : View}
-    {to : Printed} {last : Option (List Event)} where
+    {kept keeps : Option Kept} (h : IsSoFar (take i (map Key keys)) old now from mid kept keeps) {new : View}
+    {to : Printed} {last : Option Kept} where
   key-then : {r : Result (Unit {0}) Halt} → Gives (Key (get_or keys i 0) ∷ []) now new mid to keeps last r
       → Gives (take (i + 1) (map Key keys)) old new from to kept last r
   key-then {r} g = subst (λ (es : List Event). Gives es old new from to kept last r) (sym (press-next keys i within))
@@ -90,7 +90,7 @@ module _ (keys : List ℕ) (i : ℕ) (within : i < length keys) {old now : View}
   }
 
 pub keys-end : (keys : List ℕ) (i : ℕ) {goal : Option Goal} {old now : View} {from mid : Printed}
-    {kept keeps : Option (List Event)} {before after : Clock} {w : Walked}
+    {kept keeps : Option Kept} {before after : Clock} {w : Walked}
     → IsSoFar (take i (map Key keys)) old now from mid kept keeps → length keys ≤ i → after ≡ before
     → Serves Keys goal keys old now from mid kept keeps before after (Ok w)
 keys-end keys i h all same = record {
@@ -99,7 +99,7 @@ keys-end keys i h all same = record {
   serves = (take_all i (map Key keys) (rw (length-map keys Key) all), same);
 }
 
-module _ {goal : Option Goal} {keys : List ℕ} {old new : View} {from to : Printed} {kept keeps : Option (List Event)}
+module _ {goal : Option Goal} {keys : List ℕ} {old new : View} {from to : Printed} {kept keeps : Option Kept}
     {before after : Clock} where
   -- the machine halts before the line's end
   pub line-halts : {other : Option Goal} {why : Halt}
@@ -124,7 +124,7 @@ line-end goal another keys s mid t ends first (Err why) is same x =
 
 -- a line's end after its keys
 pub line-then : {goal other another : Option Goal} {keys : List ℕ} {old mid new : View} {from between to : Printed}
-    {kept keeps last : Option (List Event)} {before now after : Clock} {w : Walked} {r : Result Walked Halt}
+    {kept keeps last : Option Kept} {before now after : Clock} {w : Walked} {r : Result Walked Halt}
     → Serves Keys other keys old mid from between kept keeps before now (Ok w)
     → Serves Keys another (10 ∷ []) mid new between to keeps last now after r
     → Serves Line goal keys old new from to kept last before after r
@@ -138,23 +138,23 @@ line-then {goal} {other} {another} {keys} {old} {mid} {new} {from} {between} {to
 
 -- the machine takes more
 pub served-up : {wanted : Wanted} {goal : Option Goal} {keys : List ℕ} {old new : View} {from to : Printed}
-    {kept keeps : Option (List Event)} {before after : Clock} {w : Walked}
+    {kept keeps : Option Kept} {before after : Clock} {w : Walked}
     → Serves wanted goal keys old new from to kept keeps before after (Ok w) → IsUp new
 served-up h = far-up (far-gives h.gives)
 
 -- ---- what gives no event
 
-pub serves-clock : {goal : Option Goal} {keys : List ℕ} {old : View} {from : Printed} {kept : Option (List Event)}
+pub serves-clock : {goal : Option Goal} {keys : List ℕ} {old : View} {from : Printed} {kept : Option Kept}
     {before after : Clock} {w : Walked} → IsUp old
     → Serves (Set after) goal keys old old from from kept kept before after (Ok w)
 serves-clock up = record { events = []; gives = far-all (far-none up) tt; serves = (refl, refl) }
 
-pub serves-nothing : {goal : Option Goal} {keys : List ℕ} {old : View} {from : Printed} {kept : Option (List Event)}
+pub serves-nothing : {goal : Option Goal} {keys : List ℕ} {old : View} {from : Printed} {kept : Option Kept}
     {before : Clock} {w : Walked} → IsUp old
     → Serves Nothing goal keys old old from from kept kept before before (Ok w)
 serves-nothing up = record { events = []; gives = far-all (far-none up) tt; serves = (refl, refl) }
 
-pub serves-flush : {goal : Option Goal} {keys : List ℕ} {old : View} {from to : Printed} {kept : Option (List Event)}
+pub serves-flush : {goal : Option Goal} {keys : List ℕ} {old : View} {from to : Printed} {kept : Option Kept}
     {before : Clock} {w : Walked} → IsUp old → Keeps from.contents to.contents → from.failed ≤ to.failed
     → Serves WriteOut goal keys old old from to kept kept before before (Ok w)
 serves-flush up keeps later = record {
@@ -166,28 +166,28 @@ serves-flush up keeps later = record {
 -- ---- what doesn't depend on all of a source
 
 pub walk-serves : {most : ℕ} {g goal : Option Goal} {keys : List ℕ} {old new : View} {from to : Printed}
-    {kept keeps : Option (List Event)} {before after : Clock} {r : Result Walked Halt} → g ≡ goal
+    {kept keeps : Option Kept} {before after : Clock} {r : Result Walked Halt} → g ≡ goal
     → Serves (Steps most) g [] old new from to kept keeps before after r
     → Serves (Steps most) goal keys old new from to kept keeps before after r
 walk-serves {r = Ok w} same h = rw (← same) (record { events = h.events; gives = h.gives; serves = h.serves })
 walk-serves {r = Err why} same h = rw (← same) (record { events = h.events; gives = h.gives; serves = h.serves })
 
 pub tick-serves : {times : ℕ} {goal : Option Goal} {keys : List ℕ} {old new : View} {from to : Printed}
-    {kept keeps : Option (List Event)} {before after : Clock} {r : Result Walked Halt}
+    {kept keeps : Option Kept} {before after : Clock} {r : Result Walked Halt}
     → Serves (Ticks times) None [] old new from to kept keeps before after r
     → Serves (Ticks times) goal keys old new from to kept keeps before after r
 tick-serves {r = Ok w} h = record { events = h.events; gives = h.gives; serves = h.serves }
 tick-serves {r = Err why} h = record { events = h.events; gives = h.gives; serves = h.serves }
 
 pub keys-serve : {goal : Option Goal} {keys typed : List ℕ} {old new : View} {from to : Printed}
-    {kept keeps : Option (List Event)} {before after : Clock} {r : Result Walked Halt} → keys ≡ typed
+    {kept keeps : Option Kept} {before after : Clock} {r : Result Walked Halt} → keys ≡ typed
     → Serves Keys None keys old new from to kept keeps before after r
     → Serves Keys goal typed old new from to kept keeps before after r
 keys-serve {r = Ok w} same h = rw (← same) (record { events = h.events; gives = h.gives; serves = h.serves })
 keys-serve {r = Err why} same h = rw (← same) (record { events = h.events; gives = h.gives; serves = h.serves })
 
 pub line-serves : {goal : Option Goal} {keys typed : List ℕ} {old new : View} {from to : Printed}
-    {kept keeps : Option (List Event)} {before after : Clock} {r : Result Walked Halt} → keys ≡ typed
+    {kept keeps : Option Kept} {before after : Clock} {r : Result Walked Halt} → keys ≡ typed
     → Serves Line None keys old new from to kept keeps before after r
     → Serves Line goal typed old new from to kept keeps before after r
 line-serves {r = Ok w} same h = rw (← same) (record { events = h.events; gives = h.gives; serves = h.serves })
@@ -197,7 +197,7 @@ line-serves {r = Err why} same h = rw (← same) (record { events = h.events; gi
 
 -- what it wanted so far is given
 pub record IsDriving {S : Type 0} (wants : S → Walked → Spot → S → Result (Unit {0}) Halt → List Event → Type 0)
-    (first source : S) (walked : Walked) (old now : View) (from to : Printed) (kept keeps : Option (List Event))
+    (first source : S) (walked : Walked) (old now : View) (from to : Printed) (kept keeps : Option Kept)
     (before after : Clock) : Type 0 where
   pub events : List Event
   pub far : IsSoFar events old now from to kept keeps
@@ -206,12 +206,12 @@ pub record IsDriving {S : Type 0} (wants : S → Walked → Spot → S → Resul
       → wants first no_steps (spot_at old from before) last r (events ++ more)
 
 module _ {S : Type 0} {wants : S → Walked → Spot → S → Result (Unit {0}) Halt → List Event → Type 0} where
-  pub driving-begins : {first : S} {old : View} {from : Printed} {kept : Option (List Event)} {before : Clock}
+  pub driving-begins : {first : S} {old : View} {from : Printed} {kept : Option Kept} {before : Clock}
       → IsUp old → IsDriving wants first first no_steps old old from from kept kept before before
   driving-begins up = record { events = []; far = far-none up; closes = λ last r more w. w }
 
   module _ {first source later : S} {walked : Walked} {old now : View} {from mid : Printed}
-      {kept keeps : Option (List Event)} {before clock : Clock}
+      {kept keeps : Option Kept} {before clock : Clock}
       (h : IsDriving wants first source walked old now from mid kept keeps before clock) {wanted : Wanted}
       {goal : Option Goal} {keys : List ℕ}
       (asks : (s : Spot) → s.state ≡ now.state → Asks wants goal keys source later walked s wanted) where
@@ -228,7 +228,7 @@ module _ {S : Type 0} {wants : S → Walked → Spot → S → Result (Unit {0})
       gives = far-all h.far tt;
     }
 
-    module _ {new : View} {to : Printed} {last : Option (List Event)} {after : Clock} where
+    module _ {new : View} {to : Printed} {last : Option Kept} {after : Clock} where
       -- it goes on
       pub driving-more : {w : Walked} → Serves wanted goal keys now new mid to keeps last clock after (Ok w)
           → IsDriving wants first later w old new from to kept last before after
@@ -259,6 +259,6 @@ module _ {S : Type 0} {wants : S → Walked → Spot → S → Result (Unit {0})
       }
 
   pub driving-up : {first source : S} {walked : Walked} {old now : View} {from mid : Printed}
-      {kept keeps : Option (List Event)} {before clock : Clock}
+      {kept keeps : Option Kept} {before clock : Clock}
       → IsDriving wants first source walked old now from mid kept keeps before clock → IsUp now
   driving-up h = far-up h.far

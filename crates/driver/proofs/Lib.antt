@@ -4,6 +4,7 @@ mod Pacing
 mod Playing
 mod Reaching
 mod Scripting
+mod Sitting
 mod Striding
 pub mod Tails
 mod Walking

@@ -1,14 +1,13 @@
 -- Steps with the ticks of a clock.
-use Rattle.std.proofs.Common.{[], ap, append-nil, append_assoc, arith, false, List, refl, replicate, suc, sym, true}
+use Rattle.std.proofs.Common.{[], ap, append-nil, append_assoc, arith, false, refl, replicate, suc, sym}
 use Rattle.std.proofs.Common.{zero, ℕ, ◌+◌, ◌++◌, ◌-◌, ◌<◌, ◌∙◌, ◌∷◌, ◌≡◌, ◌≤◌}
 use Rattle.std.proofs.lemmas.Bool.Decides.{nat_tests}
-use Rattle.std.specs.Prelude.{Bool, nat_le}
+use Rattle.std.specs.Prelude.{nat_le}
 use Rattle.events.specs.Paced.{paced, ticks_of}
-use Rattle.playtext.specs.Clocks.{is_off, passed, passed_by, quiet, strikes}
-use Rattle.playtext.specs.declared.clock.Clock.{Clock}
-use Rattle.playtext.specs.declared.clock.Clock.TheVariants.{Every, Off, Random}
-use Rattle.unixmodel.specs.declared.event.Event.{Event}
-use Rattle.unixmodel.specs.declared.event.Event.TheVariants.{Step, Tick}
+use Rattle.events.specs.Clocks.{is_off, passed, passed_by, quiet, strikes}
+use Rattle.events.specs.declared.clock.Clock.{Clock}
+use Rattle.events.specs.declared.clock.Clock.TheVariants.{Every, Off, Random}
+use Rattle.unixmodel.specs.declared.event.Event.TheVariants.{Step}
 
 -- steps, and others after them
 pub paced-more : (n m : ℕ) (c : Clock) → paced (n + m) c ≡ paced n c ++ paced m (passed_by n c)

@@ -1,33 +1,34 @@
 -- What a play wants.
-use Rattle.std.proofs.Common.{[], ap, append-nil, append_assoc, arith, Err, false, inl, inr, length, List, map, None}
+use Rattle.std.proofs.Common.{[], ap, append-nil, append_assoc, arith, Err, inl, inr, length, List, map, None}
 use Rattle.std.proofs.Common.{Ok, Option, refl, replicate, Result, Some, subst, suc, sym, true, zero, ℕ, ◌+◌, ◌++◌, ◌-◌}
 use Rattle.std.proofs.Common.{◌∙◌, ◌∷◌, ◌≡◌}
 use Rattle.std.proofs.KnownBytes.{Appends-trans}
 use Rattle.std.proofs.lemmas.Bool.Decides.{nat_tests}
 use Rattle.std.specs.Io.KnownBytes.{Appends}
-use Rattle.std.specs.Prelude.{Bool, is_some, nat_lt, slice_get}
+use Rattle.std.specs.Prelude.{Bool, nat_lt, slice_get}
 use Rattle.calls.specs.declared.halt.Halt.{Halt}
 use Rattle.driver.proofs.Pacing.{paced-more}
 use Rattle.driver.specs.Driven.{IsDriven, Printed}
 use Rattle.driver.specs.Played.{IsPlayed}
-use Rattle.driver.specs.Plays.{GoesOnUnless, IsAtEnd, IsWrittenOut, LineBegins, LineGives, LineHalts, LineIsDone}
+use Rattle.driver.specs.Plays.{GoesOnUnless, IsWrittenOut, LineBegins, LineGives, LineIsDone}
 use Rattle.driver.specs.Plays.{Plays, PlaysOn, aim_of_deed, deed_keys, gave, has_event, in_vain, noted_if, wanted_by}
 use Rattle.driver.specs.Spots.{Leads, Spot}
 use Rattle.driver.specs.Wanted.{Asks, IsBegun, IsGiven}
 use Rattle.driver.specs.declared.play.Unreached.{Unreached}
 use Rattle.driver.specs.declared.wanted.Walked.{Walked}
-use Rattle.driver.specs.declared.wanted.Wanted.TheVariants.{End, WriteOut}
-use Rattle.events.specs.Paced.{Begins, paced}
+use Rattle.driver.specs.declared.wanted.Wanted.TheVariants.{End}
+use Rattle.events.specs.Paced.{paced}
+use Rattle.events.specs.Records.{Kept}
 use Rattle.machine.specs.View.{View}
-use Rattle.playtext.specs.Clocks.{passed_by}
-use Rattle.playtext.specs.Places.{after_deed, first_place}
-use Rattle.playtext.specs.declared.clock.Clock.{Clock}
-use Rattle.playtext.specs.declared.grammar.Act.{Act}
-use Rattle.playtext.specs.declared.grammar.Deed.{Deed}
-use Rattle.playtext.specs.declared.grammar.Deed.TheVariants as deed
-use Rattle.playtext.specs.declared.grammar.Goal.{Goal}
-use Rattle.playtext.specs.declared.place.Place.{Place}
-use Rattle.scripts.specs.declared.script.lines.Command.TheVariants as command
+use Rattle.events.specs.Clocks.{passed_by}
+use Rattle.events.specs.Places.{after_deed, first_place}
+use Rattle.events.specs.declared.clock.Clock.{Clock}
+use Rattle.events.specs.declared.grammar.Act.{Act}
+use Rattle.events.specs.declared.grammar.Deed.{Deed}
+use Rattle.events.specs.declared.grammar.Deed.TheVariants as deed
+use Rattle.events.specs.declared.grammar.Goal.{Goal}
+use Rattle.events.specs.declared.place.Place.{Place}
+use Rattle.events.specs.declared.script.lines.Command.TheVariants as command
 use Rattle.unixmodel.specs.Run.{run}
 use Rattle.unixmodel.specs.State.{State}
 use Rattle.unixmodel.specs.declared.event.Event.{Event}
@@ -273,7 +274,7 @@ module _ {S : Type 0} {wants : S → Walked → Spot → S → Result (Unit {0})
 
 -- ---- a play
 
-module _ {all acts : List Act} {s : Spot} {old new : View} {from to : Printed} {kept keeps : Option (List Event)}
+module _ {all acts : List Act} {s : Spot} {old new : View} {from to : Printed} {kept keeps : Option Kept}
     {n : ℕ} {p : Place} {current : Option Act} (w : Walked) (vain : Option Unreached) {r : Result (Unit {0}) Halt}
     (same : all ≡ acts) (counted : n ≡ 0xffff_ffff_ffff_ffff) (first : p ≡ first_place) (none : current ≡ None)
     (x : IsDriven (PlaysOn n all p current w s vain) old new from to kept keeps r) where

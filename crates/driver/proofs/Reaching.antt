@@ -1,5 +1,5 @@
 -- Whether what is waited for has come.
-use Rattle.std.proofs.Common.{false, inl, inr, List, None, Option, refl, Some, sym, true, ℕ, ◌∙◌, ◌≡◌}
+use Rattle.std.proofs.Common.{false, inr, List, None, Option, refl, Some, sym, true, ℕ, ◌≡◌}
 use Rattle.std.specs.Prelude.{Bool, IfSome, MatchBool, ◌&&◌, ◌⊎◌}
 use Rattle.driver.specs.Goals.{EndsWith}
 
@@ -33,11 +33,11 @@ match-no true P Q h is = absurd cc
 match-no false P Q h is = h
 
 -- it has not come, and maybe can't
-pub match-stuck : (b off idle : Bool) (P Q : Type 0) → Q → b ≡ (off && idle)
-    → MatchBool b (P ⊎ ((off ≡ true) × (idle ≡ true))) (Q × (off ≡ true → idle ≡ false))
-match-stuck true true true P Q q is = inr (refl, refl)
-match-stuck false true true P Q q is = absurd cc
-match-stuck true true false P Q q is = absurd cc
-match-stuck false true false P Q q is = (q, λ off. refl)
-match-stuck true false idle P Q q is = absurd cc
-match-stuck false false idle P Q q is = (q, λ off. absurd cc)
+pub match-stuck : (b off idle : Bool) (P Q Up : Type 0) → Q → Up → b ≡ (off && idle)
+    → MatchBool b (P ⊎ ((off ≡ true) × (idle ≡ true))) (Q × (off ≡ true → idle ≡ false) × Up)
+match-stuck true true true P Q Up q up is = inr (refl, refl)
+match-stuck false true true P Q Up q up is = absurd cc
+match-stuck true true false P Q Up q up is = absurd cc
+match-stuck false true false P Q Up q up is = (q, (λ off. refl), up)
+match-stuck true false idle P Q Up q up is = absurd cc
+match-stuck false false idle P Q Up q up is = (q, (λ off. absurd cc), up)

@@ -1,28 +1,27 @@
 -- What a script wants.
-use Rattle.std.proofs.Common.{[], ap, append_assoc, arith, Err, inl, inr, List, map, None, Ok, refl, replicate, Result}
-use Rattle.std.proofs.Common.{drop, length, Option, Some, suc, sym, zero, ℕ, ◌+◌, ◌++◌, ◌-◌, ◌<◌, ◌∙◌, ◌∷◌, ◌≡◌, ◌≤◌}
+use Rattle.std.proofs.Common.{[], ap, append_assoc, arith, Err, inl, inr, List, None, Ok, refl, replicate, Result}
+use Rattle.std.proofs.Common.{drop, length, Option, Some, suc, sym, zero, ℕ, ◌+◌, ◌++◌, ◌-◌, ◌<◌, ◌∙◌, ◌∷◌, ◌≡◌}
 use Rattle.std.specs.Prelude.{slice_get}
 use Rattle.std.proofs.lemmas.List.{replicate-append-replicate}
 use Rattle.calls.specs.declared.halt.Halt.{Halt}
 use Rattle.driver.proofs.Pacing.{off-stays, paced-off}
-use Rattle.driver.proofs.Walking.{IsSoFar}
 use Rattle.driver.specs.Commands.{keys_of, WantsScript, wanted_of}
 use Rattle.driver.specs.Driven.{IsDriven, Printed, spot_at}
 use Rattle.driver.specs.Pacing.{Follows}
 use Rattle.driver.specs.Spots.{Spot}
 use Rattle.driver.specs.Wanted.{Asks, IsBegun, IsGiven}
 use Rattle.driver.specs.declared.wanted.Walked.{Walked}
-use Rattle.driver.specs.declared.wanted.Wanted.{Wanted}
 use Rattle.driver.specs.declared.wanted.Wanted.TheVariants.{End}
 use Rattle.events.specs.Paced.{Begins, paced}
+use Rattle.events.specs.Records.{Kept}
 use Rattle.events.specs.Scripts.{command_events, script_events}
 use Rattle.machine.specs.View.{View}
-use Rattle.playtext.specs.Clocks.{passed_by}
-use Rattle.playtext.specs.declared.clock.Clock.{Clock}
-use Rattle.playtext.specs.declared.clock.Clock.TheVariants.{Off}
-use Rattle.playtext.specs.declared.grammar.Goal.{Goal}
-use Rattle.scripts.specs.declared.script.lines.Command.{Command}
-use Rattle.scripts.specs.declared.script.lines.Command.TheVariants as command
+use Rattle.events.specs.Clocks.{passed_by}
+use Rattle.events.specs.declared.clock.Clock.{Clock}
+use Rattle.events.specs.declared.clock.Clock.TheVariants.{Off}
+use Rattle.events.specs.declared.grammar.Goal.{Goal}
+use Rattle.events.specs.declared.script.lines.Command.{Command}
+use Rattle.events.specs.declared.script.lines.Command.TheVariants as command
 use Rattle.unixmodel.specs.declared.event.Event.{Event}
 use Rattle.unixmodel.specs.declared.event.Event.TheVariants.{Step}
 
@@ -62,13 +61,13 @@ never-ends (command.Type text) is = absurd cc
 
 -- ---- others after it
 
-follows-then : (a b ea eb : List Event) (r : Result (Unit {0}) Halt) → ea ≡ a → Follows b r eb
+pub follows-then : (a b ea eb : List Event) (r : Result (Unit {0}) Halt) → ea ≡ a → Follows b r eb
     → Follows (a ++ b) r (ea ++ eb)
 follows-then a b ea eb (Ok u) same f = rw (same, f) refl
 follows-then a b ea eb (Err why) same f =
     (f.0, append_assoc ea eb f.0 ∙ ap (λ es. ea ++ es) f.1 ∙ ap (λ es. es ++ b) same)
 
-begins-then : (a b events : List Event) → Begins events a → Begins events (a ++ b)
+pub begins-then : (a b events : List Event) → Begins events a → Begins events (a ++ b)
 begins-then a b events f = (f.0 ++ b, sym (append_assoc events f.0 b) ∙ ap (λ es. es ++ b) f.1)
 
 -- ---- a script
@@ -121,7 +120,7 @@ module _ {S : Type 0} {wants : S → Walked → Spot → S → Result (Unit {0})
   }
 
 -- no clock runs
-pub runs-script : (script : List Command) {old new : View} {from to : Printed} {kept keeps : Option (List Event)}
+pub runs-script : (script : List Command) {old new : View} {from to : Printed} {kept keeps : Option Kept}
     {r : Result (Unit {0}) Halt} (before : Clock) → before ≡ Off
     → IsDriven (λ result events. WantsScript script (spot_at old from before) result events) old new from to kept
     keeps r

@@ -1,22 +1,21 @@
 -- Steps that are done in one go.
-use Rattle.std.proofs.Common.{[], ap, append-nil, arith, false, inl, inr, List, None, Ok, Option, refl, replicate}
-use Rattle.std.proofs.Common.{Result, Some, subst, suc, sym, true, zero, ℕ, ◌+◌, ◌++◌, ◌-◌, ◌<◌, ◌∙◌, ◌∷◌, ◌≡◌, ◌≤◌}
+use Rattle.std.proofs.Common.{[], ap, arith, false, inl, inr, List, None, Ok, Option, refl, replicate}
+use Rattle.std.proofs.Common.{Result, Some, subst, suc, sym, true, zero, ℕ, ◌+◌, ◌++◌, ◌-◌, ◌<◌, ◌∙◌, ◌∷◌, ◌≡◌}
 use Rattle.std.proofs.Common.{Err}
 use Rattle.std.proofs.KnownBytes.{Appends-nil}
 use Rattle.std.proofs.lemmas.List.{replicate-append-replicate, replicate_more}
-use Rattle.std.specs.Prelude.{Bool, is_none, option_and_then, ◌&&◌}
-use Rattle.calls.proofs.Pieces.{run-append, run-more, then_begins, then_runs}
+use Rattle.std.specs.Prelude.{is_none, option_and_then, ◌&&◌}
+use Rattle.calls.proofs.Pieces.{run-more}
 use Rattle.calls.specs.Computing.{Computes, after_steps, computes, computes_as, is_done}
-use Rattle.calls.specs.Steps.{IsBusy}
 use Rattle.calls.specs.declared.halt.Halt.{Halt}
 use Rattle.driver.proofs.Pacing.{paced-off}
 use Rattle.events.specs.Paced.{paced}
-use Rattle.driver.specs.Strides.{HasStayed, IsStill, Passes}
+use Rattle.driver.specs.Strides.{IsStill, Passes}
 use Rattle.kernel.specs.Idle.{is_idle}
 use Rattle.machine.proofs.RunLemmas.{begins_both, step-runs}
-use Rattle.machine.specs.Gives.{IsDone, RunGives, StepGives}
+use Rattle.machine.specs.Gives.{RunGives, StepGives}
 use Rattle.machine.specs.View.{IsUp, View}
-use Rattle.playtext.specs.declared.clock.Clock.TheVariants.{Off}
+use Rattle.events.specs.declared.clock.Clock.TheVariants.{Off}
 use Rattle.unixmodel.specs.Calls.{After, quiet}
 use Rattle.unixmodel.specs.Meaning.{Effect}
 use Rattle.unixmodel.specs.Next.{acted, effect_of, execute, execute_at, next, step, take_turn}
@@ -24,7 +23,6 @@ use Rattle.unixmodel.specs.Process.{Process}
 use Rattle.unixmodel.specs.Run.{after_bytes, followed_by, run}
 use Rattle.unixmodel.specs.State.{State, process_at, running}
 use Rattle.unixmodel.specs.Turn.{turn}
-use Rattle.unixmodel.specs.declared.event.Event.{Event}
 use Rattle.unixmodel.specs.declared.event.Event.TheVariants.{Step}
 
 -- ---- an instruction that is done halts no machine

@@ -3,7 +3,6 @@ use Rattle.std.proofs.Common.{[], ap, append-nil, append_assoc, arith, Err, fals
 use Rattle.std.proofs.Common.{Option, refl, replicate, Result, Some, subst, sym, true, ℕ, ◌+◌, ◌++◌, ◌-◌, ◌<◌, ◌∙◌, ◌∷◌}
 use Rattle.std.proofs.Common.{◌≡◌, ◌≤◌}
 use Rattle.std.proofs.lemmas.Bool.{cases_lt}
-use Rattle.std.proofs.KnownBytes.{Appends-kept, Keeps-refl}
 use Rattle.std.specs.Io.KnownBytes.{Appends, Keeps, append_known}
 use Rattle.std.specs.Prelude.{Bool, OnOk, is_some, option_map, suc, zero, ◌⊎◌}
 use Rattle.std.specs.Result.{IsErrAnd}
@@ -12,25 +11,25 @@ use Rattle.calls.specs.declared.halt.Halt.{Halt}
 use Rattle.driver.proofs.Pacing.{off-passed, paced-more, paced-none, paced-one, paced-quiet, passed-more, passed-none}
 use Rattle.driver.proofs.Pacing.{paced-off, passed-one}
 use Rattle.driver.proofs.Tails.{shown-appends}
-use Rattle.driver.specs.Driven.{Gives, Goes, Printed, Serves, halts, shown_by, spot_at}
+use Rattle.driver.specs.Driven.{Gives, Goes, Printed, Serves, shown_by, spot_at}
 use Rattle.driver.specs.Goals.{GoesOn, IsFound, IsOver, IsReached, IsUnreached}
 use Rattle.driver.specs.Pacing.{Follows}
-use Rattle.events.specs.Paced.{Begins, paced, ticks_of}
-use Rattle.driver.specs.Spots.{Spot}
+use Rattle.events.specs.Paced.{paced, ticks_of}
 use Rattle.driver.specs.Strides.{HasStayed, IsStill}
-use Rattle.driver.specs.Walks.{At, IsWait, IsWaiting, walked_to}
+use Rattle.driver.specs.Walks.{At, walked_to}
 use Rattle.driver.specs.declared.wanted.Walked.{Walked}
 use Rattle.driver.specs.declared.wanted.Wanted.TheVariants.{Steps}
-use Rattle.events.specs.Records.{Records}
+use Rattle.events.proofs.Recording.{records-none, records-then}
+use Rattle.events.specs.Records.{Kept, Records}
 use Rattle.kernel.specs.Idle.{is_idle}
 use Rattle.machine.proofs.RunLemmas.{Rises-later, SoFar, both, runs_on, so-far-kept, so_far_at_first, up_now}
 use Rattle.machine.specs.Gives.{IsDone, RunGives}
 use Rattle.machine.specs.View.{IsUp, View}
-use Rattle.playtext.specs.Clocks.{is_off, passed, passed_by, quiet, strikes}
-use Rattle.playtext.specs.declared.clock.Clock.{Clock}
-use Rattle.playtext.specs.declared.clock.Clock.TheVariants.{Off}
-use Rattle.playtext.specs.declared.grammar.Goal.{Goal}
-use Rattle.playtext.specs.declared.grammar.Goal.TheVariants as goal
+use Rattle.events.specs.Clocks.{is_off, passed, passed_by, quiet, strikes}
+use Rattle.events.specs.declared.clock.Clock.{Clock}
+use Rattle.events.specs.declared.clock.Clock.TheVariants.{Off}
+use Rattle.events.specs.declared.grammar.Goal.{Goal}
+use Rattle.events.specs.declared.grammar.Goal.TheVariants as goal
 use Rattle.unixmodel.specs.Calls.{After}
 use Rattle.unixmodel.specs.Failures.{Rises}
 use Rattle.unixmodel.specs.Run.{after_bytes, run}
@@ -38,31 +37,16 @@ use Rattle.unixmodel.specs.State.{State}
 use Rattle.unixmodel.specs.declared.event.Event.{Event}
 use Rattle.unixmodel.specs.declared.event.Event.TheVariants.{Step, Tick}
 
--- ---- records
-
-pub records-none : (k : Option (List Event)) → Records k k []
-records-none None = tt
-records-none (Some es) = sym (append-nil es)
-
-pub records-then : (a b c : Option (List Event)) (xs ys : List Event) → Records a b xs → Records b c ys
-    → Records a c (xs ++ ys)
-records-then a b None xs ys first next = tt
-records-then None None (Some es) xs ys first next = absurd next
-records-then None (Some ms) (Some es) xs ys first next = absurd first
-records-then (Some ks) None (Some es) xs ys first next = absurd next
-records-then (Some ks) (Some ms) (Some es) xs ys first next =
-    next ∙ ap (λ l. l ++ ys) first ∙ append_assoc ks xs ys
-
 -- ---- what is given one after the other
 
 -- events so far, of which the machine goes on
-pub record IsSoFar (events : List Event) (old now : View) (from to : Printed) (kept keeps : Option (List Event))
+pub record IsSoFar (events : List Event) (old now : View) (from to : Printed) (kept keeps : Option Kept)
     : Type 0 where
   pub so_far : SoFar old now events from.contents to.contents
   pub records : Records kept keeps events
   pub later : from.failed ≤ to.failed
 
-pub far-none : {old : View} {from : Printed} {kept : Option (List Event)} → IsUp old
+pub far-none : {old : View} {from : Printed} {kept : Option Kept} → IsUp old
     → IsSoFar [] old old from from kept kept
 far-none {old} {from} {kept} up = record {
   so_far = so_far_at_first old from.contents up;
@@ -70,11 +54,11 @@ far-none {old} {from} {kept} up = record {
   later = omega arith;
 }
 
-pub far-gives : {events : List Event} {old now : View} {from to : Printed} {kept keeps : Option (List Event)}
+pub far-gives : {events : List Event} {old now : View} {from to : Printed} {kept keeps : Option Kept}
     {u : Unit {0}} → Gives events old now from to kept keeps (Ok u) → IsSoFar events old now from to kept keeps
 far-gives g = record { so_far = record { began = g.runs.0; done = g.runs.1 }; records = g.records; later = g.later }
 
-module _ {xs : List Event} {old now : View} {from mid : Printed} {kept keeps : Option (List Event)}
+module _ {xs : List Event} {old now : View} {from mid : Printed} {kept keeps : Option Kept}
     (h : IsSoFar xs old now from mid kept keeps) where
   pub far-up : IsUp now
   far-up = up_now old now xs from.contents mid.contents h.so_far
@@ -92,7 +76,7 @@ module _ {xs : List Event} {old now : View} {from mid : Printed} {kept keeps : O
   }
 
   -- the same, under other names
-  pub far-through : {same_now : View} {to : Printed} {same_keeps : Option (List Event)} → same_now ≡ now
+  pub far-through : {same_now : View} {to : Printed} {same_keeps : Option Kept} → same_now ≡ now
       → same_keeps ≡ keeps → Keeps mid.contents to.contents → mid.failed ≤ to.failed
       → IsSoFar xs old same_now from to kept same_keeps
   far-through a b keep later = rw (a, b) (far-flushed keep later)
@@ -101,7 +85,7 @@ module _ {xs : List Event} {old now : View} {from mid : Printed} {kept keeps : O
   pub far-all : (u : Unit {0}) → Gives xs old now from mid kept keeps (Ok u)
   far-all u = record { records = h.records; runs = (h.so_far.began, h.so_far.done); later = h.later }
 
-  pub far-then : {ys : List Event} {new : View} {to : Printed} {last : Option (List Event)} {r : Result (Unit {0}) Halt}
+  pub far-then : {ys : List Event} {new : View} {to : Printed} {last : Option Kept} {r : Result (Unit {0}) Halt}
       → Gives ys now new mid to keeps last r → Gives (xs ++ ys) old new from to kept last r
   far-then {ys} {new} {to} {last} {r} g = record {
     records = records-then kept keeps last xs ys h.records g.records;
@@ -170,12 +154,17 @@ busy-still : (s t : State) → is_idle s ≡ false → IsBusy t ⊎ (t ≡ s) �
 busy-still s t busy (inl is) = is.busy
 busy-still s t busy (inr same) = rw same busy
 
+up-still : (s t : State) → s.halted ≡ None → IsBusy t ⊎ (t ≡ s) → t.halted ≡ None
+up-still s t up (inl is) = is.goes
+up-still s t up (inr same) = rw same up
+
 on-still : (g : Option Goal) (c d : Clock) (s t : State) (known shown : Option (List ℕ)) → Keeps known shown
     → is_off d ≡ is_off c → GoesOn g c s shown → IsBusy t ⊎ (t ≡ s) → GoesOn g d t known
 on-still None c d s t known shown keeps same on still = tt
 on-still (Some g) c d s t known shown keeps same on still = (
   unreached-still g s t known (unreached-known g s known shown keeps on.0) still,
-  λ off. busy-still s t (on.1 (sym same ∙ off)) still,
+  (λ off. busy-still s t (on.1 (sym same ∙ off)) still),
+  up-still s t on.2 still,
 )
 
 over-off : (g : Option Goal) (c d : Clock) (s : State) (shown : Option (List ℕ)) → is_off d ≡ is_off c
@@ -188,13 +177,13 @@ over-off (Some g) c d s shown same (inr never) = inr (same ∙ never.0, never.1)
 
 -- after `made` steps it is not over
 pub record IsWalking (g : Option Goal) (most made : ℕ) (old now : View) (from to : Printed)
-    (kept keeps : Option (List Event)) (before after : Clock) : Type 0 where
+    (kept keeps : Option Kept) (before after : Clock) : Type 0 where
   pub far : IsSoFar (paced made before) old now from to kept keeps
   pub within : made ≤ most
   pub least : (n : ℕ) → n < made → At (spot_at old from before) n (GoesOn g before)
   pub clock : after ≡ passed_by made before
 
-pub walking-begins : (g : Option Goal) (most : ℕ) {old : View} {from : Printed} {kept : Option (List Event)}
+pub walking-begins : (g : Option Goal) (most : ℕ) {old : View} {from : Printed} {kept : Option Kept}
     {before : Clock} → IsUp old → IsWalking g most 0 old old from from kept kept before before
 walking-begins g most {old} {from} {kept} {before} up = record {
   far = rw (paced-none before) (far-none up);
@@ -203,7 +192,7 @@ walking-begins g most {old} {from} {kept} {before} up = record {
   clock = sym (passed-none before);
 }
 
-module _ {g : Option Goal} {most made : ℕ} {old now : View} {from mid : Printed} {kept keeps : Option (List Event)}
+module _ {g : Option Goal} {most made : ℕ} {old now : View} {from mid : Printed} {kept keeps : Option Kept}
     {before now_clock : Clock} (h : IsWalking g most made old now from mid kept keeps before now_clock) where
   known-now : Keeps (append_known (shown_by from) (walked_to (spot_at old from before) made).bytes) (shown_by mid)
   known-now =
@@ -285,7 +274,7 @@ module _ {g : Option Goal} {most made : ℕ} {old now : View} {from mid : Printe
 
 -- what waits for nothing goes on in any case
 least-any : (g : Option Goal) (aims : Bool) (more made most : ℕ) {old now : View} {from mid : Printed}
-    {kept keeps : Option (List Event)} {before now_clock : Clock}
+    {kept keeps : Option Kept} {before now_clock : Clock}
     → IsWalking g most made old now from mid kept keeps before now_clock → (is_some g ≡ aims)
     → GoesOn g now_clock now.state (shown_by mid) → (aims ≡ true → IsStill now.state now_clock more)
     → (n : ℕ) → n < made + more → At (spot_at old from before) n (GoesOn g before)
@@ -295,18 +284,18 @@ least-any (Some g) aims more made most h is on still n less =
 
 -- the same, under other names
 pub goes-through : {aims : Bool} {most count : ℕ} {now same_now new : View} {from to : Printed}
-    {keeps same_keeps last : Option (List Event)} {clock same_clock after : Clock} {r : Result (Unit {0}) Halt}
+    {keeps same_keeps last : Option Kept} {clock same_clock after : Clock} {r : Result (Unit {0}) Halt}
     → same_now ≡ now → same_keeps ≡ keeps → same_clock ≡ clock
     → Goes aims most same_now new from to same_keeps last same_clock after count r
     → Goes aims most now new from to keeps last clock after count r
 goes-through a b c x = rw (← a, ← b, ← c) x
 
-module _ {g : Option Goal} {most made : ℕ} {old now : View} {from mid out : Printed} {kept keeps : Option (List Event)}
+module _ {g : Option Goal} {most made : ℕ} {old now : View} {from mid out : Printed} {kept keeps : Option Kept}
     {before now_clock : Clock} (h : IsWalking g most made old now from mid kept keeps before now_clock)
     (keep : Keeps mid.contents out.contents) (later : mid.failed ≤ out.failed)
     (on : GoesOn g now_clock now.state (shown_by mid))
     {aims : Bool} (is : is_some g ≡ aims) {room more : ℕ} (few : room ≤ most - made) {new : View} {to : Printed}
-    {last : Option (List Event)} {after : Clock} where
+    {last : Option Kept} {after : Clock} where
   -- more steps, and it is not over
   pub walking-more : (u : Unit {0}) → Goes aims room now new out to keeps last now_clock after more (Ok u)
       → IsWalking g most (made + more) old new from to kept last before after
@@ -355,7 +344,7 @@ on-ok P (Ok u) p = p
 on-ok P (Err why) p = tt
 
 -- steps after none of which the clock strikes
-pub goes-quiet : {aims : Bool} {most count : ℕ} {old new : View} {from to : Printed} {kept keeps : Option (List Event)}
+pub goes-quiet : {aims : Bool} {most count : ℕ} {old new : View} {from to : Printed} {kept keeps : Option Kept}
     {before after : Clock} {r : Result (Unit {0}) Halt}
     → RunGives old new (replicate count Step) from.contents to.contents (Rises from.failed to.failed) r
     → (0 < count) × (count ≤ most) → (aims ≡ true → IsStill old.state Off count) → from.failed ≤ to.failed
@@ -374,7 +363,7 @@ goes-quiet {aims} {most} {count} {old} {new} {from} {to} {kept} {keeps} {before}
 
 -- as many as there may be at least
 pub goes-within : {aims : Bool} {few most count : ℕ} {old new : View} {from to : Printed}
-    {kept keeps : Option (List Event)} {before after : Clock} {r : Result (Unit {0}) Halt} → few ≤ most
+    {kept keeps : Option Kept} {before after : Clock} {r : Result (Unit {0}) Halt} → few ≤ most
     → Goes aims few old new from to kept keeps before after count r
     → Goes aims most old new from to kept keeps before after count r
 goes-within le x = record {
@@ -388,7 +377,7 @@ goes-within le x = record {
 }
 
 -- a step is still, whoever waits
-pub goes-aims : {aims : Bool} {most : ℕ} {old new : View} {from to : Printed} {kept keeps : Option (List Event)}
+pub goes-aims : {aims : Bool} {most : ℕ} {old new : View} {from to : Printed} {kept keeps : Option Kept}
     {before after : Clock} {count : ℕ} {r : Result (Unit {0}) Halt}
     → Goes true most old new from to kept keeps before after count r
     → Goes aims most old new from to kept keeps before after count r
@@ -409,7 +398,7 @@ unfolding run paced
 one-still s c zero less = (refl, inr refl)
 one-still s c (suc k) less = absurd (omega (arith, less))
 
-module _ {old mid : View} {from between : Printed} {kept keeps : Option (List Event)} {before : Clock} where
+module _ {old mid : View} {from between : Printed} {kept keeps : Option Kept} {before : Clock} where
   -- the machine halts at the step
   pub pace-halts : {after : Clock} {why : Halt} → Gives (Step ∷ []) old mid from between kept keeps (Err why)
       → Goes true 1 old mid from between kept keeps before after 1 (Err why)
@@ -438,7 +427,7 @@ module _ {old mid : View} {from between : Printed} {kept keeps : Option (List Ev
   }
 
   -- it strikes
-  pub pace-struck : {new : View} {to : Printed} {last : Option (List Event)} {after : Clock} {u : Unit {0}}
+  pub pace-struck : {new : View} {to : Printed} {last : Option Kept} {after : Clock} {u : Unit {0}}
       {r : Result (Unit {0}) Halt} → strikes before ≡ true → after ≡ passed before
       → Gives (Step ∷ []) old mid from between kept keeps (Ok u)
       → Gives (Tick ∷ []) mid new between to keeps last r
@@ -466,7 +455,7 @@ pub done-up : {old new : View} {a : After} {before after : Option (List ℕ)} �
 done-up k = record { sound = k.sound; goes = ap (λ (s : State). s.halted) k.state ∙ k.halts }
 
 -- the result is this one
-pub goes-as : {aims : Bool} {most count : ℕ} {old new : View} {from to : Printed} {kept keeps : Option (List Event)}
+pub goes-as : {aims : Bool} {most count : ℕ} {old new : View} {from to : Printed} {kept keeps : Option Kept}
     {before after : Clock} {r s : Result (Unit {0}) Halt} → r ≡ s
     → Goes aims most old new from to kept keeps before after count r
     → Goes aims most old new from to kept keeps before after count s

@@ -1,14 +1,14 @@
 -- The events that a script wants.
-use Rattle.std.specs.Prelude.{List, None, Option, Result, Some, [], ℕ, ◌≡◌}
+use Rattle.std.specs.Prelude.{List, Option, Result, Some, [], ℕ, ◌≡◌}
 use Rattle.calls.specs.declared.halt.Halt.{Halt}
 use Rattle.driver.specs.Pacing.{Follows}
 use Rattle.driver.specs.Spots.{Spot}
 use Rattle.driver.specs.declared.wanted.Wanted.{Wanted}
 use Rattle.driver.specs.declared.wanted.Wanted.TheVariants.{Keys, Line, Steps, Ticks}
 use Rattle.events.specs.Scripts.{script_events}
-use Rattle.playtext.specs.declared.clock.Clock.TheVariants.{Off}
-use Rattle.scripts.specs.declared.script.lines.Command.{Command}
-use Rattle.scripts.specs.declared.script.lines.Command.TheVariants as command
+use Rattle.events.specs.declared.clock.Clock.TheVariants.{Off}
+use Rattle.events.specs.declared.script.lines.Command.{Command}
+use Rattle.events.specs.declared.script.lines.Command.TheVariants as command
 use Rattle.unixmodel.specs.declared.event.Event.{Event}
 
 -- the keys that a command types

@@ -9,12 +9,12 @@ use Rattle.driver.specs.Tails.{shown_of}
 use Rattle.driver.specs.Wanted.{IsBegun, IsGiven}
 use Rattle.driver.specs.declared.wanted.Walked.{Walked}
 use Rattle.driver.specs.declared.wanted.Wanted.{Wanted}
-use Rattle.events.specs.Records.{Records}
+use Rattle.events.specs.Records.{Kept, Records}
 use Rattle.machine.specs.Gives.{RunGives}
 use Rattle.machine.specs.View.{View}
-use Rattle.playtext.specs.Clocks.{passed_by}
-use Rattle.playtext.specs.declared.clock.Clock.{Clock}
-use Rattle.playtext.specs.declared.grammar.Goal.{Goal}
+use Rattle.events.specs.Clocks.{passed_by}
+use Rattle.events.specs.declared.clock.Clock.{Clock}
+use Rattle.events.specs.declared.grammar.Goal.{Goal}
 use Rattle.unixmodel.specs.declared.event.Event.{Event}
 use Rattle.unixmodel.specs.Failures.{Rises}
 
@@ -24,7 +24,7 @@ pub record Printed : Type 0 where
   pub failed : ℕ
 
 -- the events are the machine's run, up to the one at which it halted; just these are recorded
-pub record Gives (events : List Event) (old new : View) (from to : Printed) (kept keeps : Option (List Event))
+pub record Gives (events : List Event) (old new : View) (from to : Printed) (kept keeps : Option Kept)
     (result : Result (Unit {0}) Halt) : Type 0 where
   pub records : Records kept keeps events
   pub runs : RunGives old new events from.contents to.contents (Rises from.failed to.failed) result
@@ -52,20 +52,20 @@ IsServed w goal keys s events t (Err why) = IsBegun w goal keys s events
 
 -- a machine was given what was wanted
 pub record Serves (w : Wanted) (goal : Option Goal) (keys : List ℕ) (old new : View) (from to : Printed)
-    (kept keeps : Option (List Event)) (before after : Clock) (result : Result Walked Halt) : Type 0 where
+    (kept keeps : Option Kept) (before after : Clock) (result : Result Walked Halt) : Type 0 where
   pub events : List Event
   pub gives : Gives events old new from to kept keeps (halts result)
   pub serves : IsServed w goal keys (spot_at old from before) events (spot_at new to after) result
 
 -- a machine was given the events that a source wanted
 pub record IsDriven (Wants : Result (Unit {0}) Halt → List Event → Type 0) (old new : View) (from to : Printed)
-    (kept keeps : Option (List Event)) (result : Result (Unit {0}) Halt) : Type 0 where
+    (kept keeps : Option Kept) (result : Result (Unit {0}) Halt) : Type 0 where
   pub events : List Event
   pub wanted : Wants result events
   pub gives : Gives events old new from to kept keeps result
 
 -- a machine was given `count` steps, with the ticks of the clock; where it halts, a beginning
-pub record Goes (aims : Bool) (most : ℕ) (old new : View) (from to : Printed) (kept keeps : Option (List Event))
+pub record Goes (aims : Bool) (most : ℕ) (old new : View) (from to : Printed) (kept keeps : Option Kept)
     (before after : Clock) (count : ℕ) (result : Result (Unit {0}) Halt) : Type 0 where
   pub events : List Event
   pub gives : Gives events old new from to kept keeps result

@@ -2,10 +2,10 @@
 use Rattle.std.specs.Prelude.{Bool, IfSome, List, MatchBool, None, Option, Some, drop, false, length, true, ℕ, ⊤}
 use Rattle.std.specs.Prelude.{◌-◌, ◌≡◌, ◌⊎◌}
 use Rattle.kernel.specs.Idle.{is_idle}
-use Rattle.playtext.specs.Clocks.{is_off}
-use Rattle.playtext.specs.declared.clock.Clock.{Clock}
-use Rattle.playtext.specs.declared.grammar.Goal.{Goal}
-use Rattle.playtext.specs.declared.grammar.Goal.TheVariants.{Halt, Idle, Prompt, Quiet, Shown}
+use Rattle.events.specs.Clocks.{is_off}
+use Rattle.events.specs.declared.clock.Clock.{Clock}
+use Rattle.events.specs.declared.grammar.Goal.{Goal}
+use Rattle.events.specs.declared.grammar.Goal.TheVariants.{Halt, Idle, Prompt, Quiet, Shown}
 use Rattle.unixmodel.specs.State.{State}
 use Rattle.waits.specs.Prompts.{IsAtPrompt, is_quiet}
 
@@ -43,4 +43,5 @@ IsOver (Some goal) c s shown = IsReached goal s shown ⊎ ((is_off c ≡ true) �
 
 abbrev pub GoesOn : Option Goal → Clock → State → Option (List ℕ) → Type 0
 GoesOn None c s shown = ⊤
-GoesOn (Some goal) c s shown = IsUnreached goal s shown × (is_off c ≡ true → is_idle s ≡ false)
+GoesOn (Some goal) c s shown =
+    IsUnreached goal s shown × (is_off c ≡ true → is_idle s ≡ false) × (s.halted ≡ None)

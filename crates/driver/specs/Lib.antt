@@ -9,3 +9,4 @@ pub mod Tails
 pub mod Commands
 pub mod Plays
 pub mod Played
+pub mod Sessions

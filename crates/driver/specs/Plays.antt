@@ -12,14 +12,14 @@ use Rattle.driver.specs.declared.wanted.Wanted.{Wanted}
 use Rattle.driver.specs.declared.wanted.Wanted.TheVariants.{Nothing, Set, Steps}
 use Rattle.events.specs.Paced.{Begins, paced}
 use Rattle.events.specs.Scripts.{command_events}
-use Rattle.playtext.specs.Clocks.{passed_by}
-use Rattle.playtext.specs.Places.{after_deed, noted}
-use Rattle.playtext.specs.declared.grammar.Act.{Act}
-use Rattle.playtext.specs.declared.grammar.Deed.{Deed}
-use Rattle.playtext.specs.declared.grammar.Deed.TheVariants as deed
-use Rattle.playtext.specs.declared.grammar.Goal.{Goal}
-use Rattle.playtext.specs.declared.place.Place.{Place}
-use Rattle.scripts.specs.declared.script.lines.Command.TheVariants as command
+use Rattle.events.specs.Clocks.{passed_by}
+use Rattle.events.specs.Places.{after_deed, noted}
+use Rattle.events.specs.declared.grammar.Act.{Act}
+use Rattle.events.specs.declared.grammar.Deed.{Deed}
+use Rattle.events.specs.declared.grammar.Deed.TheVariants as deed
+use Rattle.events.specs.declared.grammar.Goal.{Goal}
+use Rattle.events.specs.declared.place.Place.{Place}
+use Rattle.events.specs.declared.script.lines.Command.TheVariants as command
 use Rattle.unixmodel.specs.declared.event.Event.{Event}
 
 -- ---- a line

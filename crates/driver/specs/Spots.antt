@@ -1,7 +1,7 @@
 -- Where a machine is as its source is asked.
 use Rattle.std.specs.Prelude.{List, Option, ℕ, ◌≡◌}
 use Rattle.std.specs.Io.KnownBytes.{Appends}
-use Rattle.playtext.specs.declared.clock.Clock.{Clock}
+use Rattle.events.specs.declared.clock.Clock.{Clock}
 use Rattle.unixmodel.specs.declared.event.Event.{Event}
 use Rattle.unixmodel.specs.Run.{run}
 use Rattle.unixmodel.specs.State.{State}

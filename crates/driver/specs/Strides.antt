@@ -4,7 +4,7 @@ use Rattle.calls.specs.Computing.{after_steps, computes}
 use Rattle.calls.specs.Steps.{IsBusy}
 use Rattle.events.specs.Paced.{paced}
 use Rattle.machine.specs.View.{View}
-use Rattle.playtext.specs.declared.clock.Clock.{Clock}
+use Rattle.events.specs.declared.clock.Clock.{Clock}
 use Rattle.unixmodel.specs.Calls.{After, quiet}
 use Rattle.unixmodel.specs.declared.event.Event.TheVariants.{Step}
 use Rattle.unixmodel.specs.Run.{run}

@@ -5,7 +5,7 @@ use Rattle.driver.specs.Goals.{GoesOn, IsFound, IsOver}
 use Rattle.events.specs.Paced.{Begins, paced}
 use Rattle.driver.specs.Spots.{Spot}
 use Rattle.driver.specs.declared.wanted.Walked.{Walked}
-use Rattle.playtext.specs.declared.grammar.Goal.{Goal}
+use Rattle.events.specs.declared.grammar.Goal.{Goal}
 use Rattle.unixmodel.specs.Calls.{After}
 use Rattle.unixmodel.specs.declared.event.Event.{Event}
 use Rattle.unixmodel.specs.Run.{run}

@@ -7,9 +7,8 @@ use Rattle.driver.specs.Walks.{IsWait, IsWaiting}
 use Rattle.driver.specs.declared.wanted.Walked.{Walked}
 use Rattle.driver.specs.declared.wanted.Wanted.{Wanted}
 use Rattle.driver.specs.declared.wanted.Wanted.TheVariants.{End, Keys, Line, Nothing, Set, Steps, Ticks, WriteOut}
-use Rattle.playtext.specs.Clocks.{passed_by}
-use Rattle.playtext.specs.declared.clock.Clock.{Clock}
-use Rattle.playtext.specs.declared.grammar.Goal.{Goal}
+use Rattle.events.specs.Clocks.{passed_by}
+use Rattle.events.specs.declared.grammar.Goal.{Goal}
 use Rattle.unixmodel.specs.declared.event.Event.{Event}
 use Rattle.unixmodel.specs.declared.event.Event.TheVariants.{Key, Tick}
 

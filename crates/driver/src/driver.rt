@@ -10,8 +10,8 @@ ghost use Rattle.driver.specs.declared.wanted.Wanted.TheVariants.{End, Keys, Lin
 ghost use Rattle.events.specs.Scripts.{script_events};
 ghost use Rattle.kernel.specs.Idle.{is_idle};
 ghost use Rattle.machine.specs.View.{IsUp};
-ghost use Rattle.playtext.specs.Clocks.{is_off, quiet};
-ghost use Rattle.playtext.specs.declared.clock.Clock.TheVariants.{Off};
+ghost use Rattle.events.specs.Clocks.{is_off, quiet};
+ghost use Rattle.events.specs.declared.clock.Clock.TheVariants.{Off};
 
 use crate::play::{Lines, Unreached};
 use crate::script::Script;
@@ -19,12 +19,10 @@ use crate::source::Source;
 use crate::strides::{Reach, each, once, stretch};
 use crate::tail::Tail;
 use crate::wanted::{Walked, Wanted};
+use crate::watch::Watch;
 use blockdev::BlockDev;
-use events::Record;
-use live::Watch;
+use events::{Clock, Command, Goal, Play, Record};
 use machine::{Halt, Machine};
-use playtext::{Clock, Goal, Play};
-use scripts::Command;
 use std::io::Write;
 use sv39::Translate;
 use unixmodel::event::Event;
@@ -39,15 +37,15 @@ const LINE_END: u8 = b'\n';
 /// A machine that is given events, with who records them, who looks on, and what takes the console's bytes.
 #[derive(Drop)]
 pub struct Driver<D: BlockDev, T: Translate, R, V, W: Write> {
-    machine: Machine<D, T>,
-    keeper: R,
+    pub(crate) machine: Machine<D, T>,
+    pub(crate) keeper: R,
     watch: V,
-    out: Tail<W>,
+    pub(crate) out: Tail<W>,
     // What gives ticks between steps.
     clock: Clock,
     // How many events there were since the console's bytes were written out; as many as a batch has where that is due
     // before the next.
-    since: u32,
+    pub(crate) since: u32,
     // Whether it is to be known at which step the machine halts.
     is_exact: bool,
 }
@@ -155,16 +153,17 @@ impl<D: BlockDev, T: Translate, R: Record, V: Watch, W: Write> Driver<D, T, R, V
             return BATCH;
         }
         self.since = more;
-        self.out.flush();
+        let _ = self.out.flush();
         self.watch.written_out(event, made);
         BATCH
     }
 
     // Gives ticks.
-    fn tick(&mut self, times: u32) -> Result<Walked, Halt>
+    pub(crate) fn tick(&mut self, times: u32) -> Result<Walked, Halt>
         requires { IsUp self.old.machine }
-        ensures { Serves (Ticks times) None [] self.old.machine self.new.machine self.old.out self.new.out
+        ensures given { Serves (Ticks times) None [] self.old.machine self.new.machine self.old.out self.new.out
             (R.kept self.old.keeper) (R.kept self.new.keeper) self.old.clock self.new.clock result }
+        ensures rest { R.rest self.new.keeper ≡ R.rest self.old.keeper }
     {
         let mut made = 0;
         while made < times {
@@ -184,10 +183,11 @@ impl<D: BlockDev, T: Translate, R: Record, V: Watch, W: Write> Driver<D, T, R, V
     }
 
     // Gives keys, one after the other.
-    fn press(&mut self, keys: &[u8]) -> Result<Walked, Halt>
+    pub(crate) fn press(&mut self, keys: &[u8]) -> Result<Walked, Halt>
         requires { IsUp self.old.machine }
-        ensures { Serves Keys None keys.now self.old.machine self.new.machine self.old.out self.new.out
+        ensures given { Serves Keys None keys.now self.old.machine self.new.machine self.old.out self.new.out
             (R.kept self.old.keeper) (R.kept self.new.keeper) self.old.clock self.new.clock result }
+        ensures rest { R.rest self.new.keeper ≡ R.rest self.old.keeper }
     {
         for key in keys {
             self.keeper.keys(&[*key]);
@@ -217,8 +217,9 @@ impl<D: BlockDev, T: Translate, R: Record, V: Watch, W: Write> Driver<D, T, R, V
         requires some { 0 < most }
         requires few { most ≤ 65536 }
         requires quiet { most ≤ quiet self.old.clock }
-        ensures { Goes aims most self.old.machine self.new.machine self.old.out self.new.out
+        ensures goes { Goes aims most self.old.machine self.new.machine self.old.out self.new.out
             (R.kept self.old.keeper) (R.kept self.new.keeper) self.old.clock self.new.clock result.0 result.1 }
+        ensures rest { R.rest self.new.keeper ≡ R.rest self.old.keeper }
     {
         let reach = Reach {
             most,
@@ -234,8 +235,9 @@ impl<D: BlockDev, T: Translate, R: Record, V: Watch, W: Write> Driver<D, T, R, V
     // Takes a step, and gives a tick where the clock strikes after it.
     fn pace(&mut self) -> Result<(), Halt>
         requires { IsUp self.old.machine }
-        ensures { Goes true 1 self.old.machine self.new.machine self.old.out self.new.out
+        ensures goes { Goes true 1 self.old.machine self.new.machine self.old.out self.new.out
             (R.kept self.old.keeper) (R.kept self.new.keeper) self.old.clock self.new.clock 1 result }
+        ensures rest { R.rest self.new.keeper ≡ R.rest self.old.keeper }
     {
         self.keeper.steps(1);
         once(
@@ -263,8 +265,9 @@ impl<D: BlockDev, T: Translate, R: Record, V: Watch, W: Write> Driver<D, T, R, V
         requires up { IsUp self.old.machine }
         requires some { 0 < most }
         requires few { most ≤ 65536 }
-        ensures { Goes aims most self.old.machine self.new.machine self.old.out self.new.out
+        ensures goes { Goes aims most self.old.machine self.new.machine self.old.out self.new.out
             (R.kept self.old.keeper) (R.kept self.new.keeper) self.old.clock self.new.clock result.0 result.1 }
+        ensures rest { R.rest self.new.keeper ≡ R.rest self.old.keeper }
     {
         let quiet = self.clock.quiet_steps().min(most);
         if quiet == 0 {
@@ -287,11 +290,12 @@ impl<D: BlockDev, T: Translate, R: Record, V: Watch, W: Write> Driver<D, T, R, V
     }
 
     // Takes steps until what is waited for has come, or nothing can come, and at most `most`.
-    fn walk(&mut self, most: u32, aim: Option<&Goal>) -> Result<Walked, Halt>
+    pub(crate) fn walk(&mut self, most: u32, aim: Option<&Goal>) -> Result<Walked, Halt>
         requires { IsUp self.old.machine }
-        ensures { Serves (Steps most) (option_map (λ g. g.now) aim.entry) [] self.old.machine self.new.machine
+        ensures given { Serves (Steps most) (option_map (λ g. g.now) aim.entry) [] self.old.machine self.new.machine
             self.old.out self.new.out (R.kept self.old.keeper) (R.kept self.new.keeper) self.old.clock self.new.clock
             result }
+        ensures rest { R.rest self.new.keeper ≡ R.rest self.old.keeper }
     {
         let mut made = 0;
         while made < most {
@@ -327,7 +331,7 @@ impl<D: BlockDev, T: Translate, R: Record, V: Watch, W: Write> Driver<D, T, R, V
             }
             Wanted::WriteOut => {
                 self.since = BATCH;
-                self.out.flush();
+                let _ = self.out.flush();
                 Ok(Walked::NONE)
             }
             Wanted::Nothing => Ok(Walked::NONE),

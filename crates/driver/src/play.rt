@@ -2,15 +2,14 @@
 ghost use Rattle.std.specs.Prelude.{IfOk, None, Some, ◌*◌, ◌+◌, ◌≡◌, option_map};
 ghost use Rattle.driver.specs.Plays.{PlaysOn, aim_of, gave, in_vain, is_open, line_keys_of, noted_if};
 ghost use Rattle.driver.specs.Plays.{wanted_by};
-ghost use Rattle.playtext.specs.Places.{first_place};
+ghost use Rattle.events.specs.Places.{first_place};
 
 use crate::script::{keys_of, wanted_of};
 use crate::source::Source;
 use crate::wanted::{Walked, Wanted};
 use blockdev::BlockDev;
+use events::{Act, Command, Deed, Goal, Place};
 use machine::Machine;
-use playtext::{Act, Deed, Goal, Place};
-use scripts::Command;
 use sv39::Translate;
 
 /// What was waited for did not come.

@@ -5,9 +5,8 @@ ghost use Rattle.driver.specs.Commands.{keys_of, WantsScript, wanted_of};
 use crate::source::Source;
 use crate::wanted::{Walked, Wanted};
 use blockdev::BlockDev;
+use events::{Command, Goal};
 use machine::Machine;
-use playtext::Goal;
-use scripts::Command;
 use sv39::Translate;
 
 /// The commands of a script, one after the other.

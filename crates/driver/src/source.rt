@@ -2,8 +2,8 @@
 
 use crate::wanted::{Walked, Wanted};
 use blockdev::BlockDev;
+use events::Goal;
 use machine::Machine;
-use playtext::Goal;
 use sv39::Translate;
 
 /// Says what a machine is to be given, piece by piece.
@@ -14,7 +14,7 @@ pub trait Source {
     ghost use Rattle.driver.specs.Wanted.{Asks};
     ghost use Rattle.driver.specs.declared.wanted.Walked.{Walked};
     ghost use Rattle.driver.specs.declared.wanted.Wanted.TheVariants.{End};
-    ghost use Rattle.playtext.specs.declared.grammar.Goal.{Goal};
+    ghost use Rattle.events.specs.declared.grammar.Goal.{Goal};
     ghost use Rattle.unixmodel.specs.declared.event.Event.{Event};
 
     /// How often it may be asked before its end.

@@ -3,13 +3,13 @@ ghost use Rattle.std.specs.Prelude.{[], ◌∷◌, ◌<◌, ◌≡◌, ◌≤◌
 ghost use Rattle.driver.specs.Strides.{IsStill, Passes};
 ghost use Rattle.machine.specs.Gives.{RunGivesTo, StepGivesTo};
 ghost use Rattle.machine.specs.View.{IsUp};
-ghost use Rattle.playtext.specs.declared.clock.Clock.TheVariants.{Off};
+ghost use Rattle.events.specs.declared.clock.Clock.TheVariants.{Off};
 ghost use Rattle.unixmodel.specs.Next.{next};
 ghost use Rattle.unixmodel.specs.declared.event.Event.TheVariants.{Step};
 
+use crate::watch::{Detail, Watch};
 use blockdev::BlockDev;
 use console::Out;
-use live::{Detail, Watch};
 use machine::{Halt, Machine};
 use sv39::Translate;
 use unixmodel::event::Event;

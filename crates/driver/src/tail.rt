@@ -1,5 +1,5 @@
 //! An output that remembers its last bytes.
-ghost use Rattle.std.specs.Prelude.{[], IfOk, IfSome, MatchBool, MatchResult, OnErr, ◌++◌, ◌<◌, ◌∷◌, ◌≡◌, ◌≤◌};
+ghost use Rattle.std.specs.Prelude.{[], IfOk, IfSome, MatchBool, MatchResult, OnErr, OnOk, ◌++◌, ◌<◌, ◌∷◌, ◌≡◌, ◌≤◌};
 ghost use Rattle.std.specs.Prelude.{length, option_map, take};
 ghost use Rattle.std.specs.Io.KnownBytes.{Appends, Keeps};
 ghost use Rattle.driver.specs.Goals.{EndsWith, last_bytes};
@@ -8,7 +8,7 @@ ghost use Rattle.unixmodel.specs.Failures.{Rises};
 
 use arrayvec::ArrayVec;
 use console::{Out, OutFault};
-use playtext::MOST_SHOWN;
+use events::MOST_SHOWN;
 use std::io::Write;
 use std::marker::Model;
 
@@ -75,13 +75,19 @@ impl<W: Write> Tail<W> {
         (inner, failed)
     }
 
-    /// Writes out what the writer kept back, if it takes it: what it doesn't take it is asked for again.
-    pub fn flush(&mut self)
+    /// Writes out what the writer kept back. What it doesn't take it is asked for again.
+    pub fn flush(&mut self) -> Result<(), OutFault>
         ensures kept { Keeps self.old.contents self.new.contents }
         ensures later { self.old.failed ≤ self.new.failed }
+        ensures cause { OnErr result (Rises self.old.failed self.new.failed) }
+        ensures sound { OnOk result (self.new.failed ≡ self.old.failed) }
     {
-        if self.inner.flush().is_err() {
-            self.failed = self.failed.saturating_add(1);
+        match self.inner.flush() {
+            Ok(()) => Ok(()),
+            Err(_) => {
+                self.failed = self.failed.saturating_add(1);
+                Err(OutFault::Writer)
+            }
         }
     }
 

@@ -1,6 +1,6 @@
 //! What a source wants next, and what came of it.
 
-use playtext::Clock;
+use events::Clock;
 
 /// What a machine is to be given next.
 #[derive(Clone, Copy)]

@@ -1,6 +1,6 @@
 -- What a transcript holds after more events.
 use Rattle.std.proofs.Common.{◌≡◌, ◌∙◌, ◌+◌, ◌++◌, ℕ, List, [], ◌∷◌, Bool, true, false, ap, append-nil, append_assoc}
-use Rattle.std.proofs.Common.{replicate, sym}
+use Rattle.std.proofs.Common.{refl, replicate, sym}
 use Rattle.std.proofs.lemmas.Grind.{flat_map-append}
 use Rattle.std.proofs.lemmas.List.{replicate-append-replicate}
 use Rattle.events.specs.Records.{Records}
@@ -21,10 +21,12 @@ pub last-more : (is_lost : Bool) (rows : List Row) (old new : Row) (events : Lis
     → row_events new ≡ row_events old ++ events
     → Records (events_in is_lost rows old) (events_in is_lost rows new) events
 last-more true rows old new events more = tt
-last-more false rows old new events more =
-    with-last rows new ∙ ap (λ es. rows_events rows ++ es) more
-    ∙ sym (append_assoc (rows_events rows) (row_events old) events)
-    ∙ ap (λ es. es ++ events) (sym (with-last rows old))
+last-more false rows old new events more = (
+  with-last rows new ∙ ap (λ es. rows_events rows ++ es) more
+      ∙ sym (append_assoc (rows_events rows) (row_events old) events)
+      ∙ ap (λ es. es ++ events) (sym (with-last rows old)),
+  refl,
+)
 
 pub more-steps : (is_lost : Bool) (rows : List Row) (old : Row) (n count : ℕ) → old ≡ row.Steps n
     → Records (events_in is_lost rows old) (events_in is_lost rows (row.Steps (n + count))) (replicate count event.Step)

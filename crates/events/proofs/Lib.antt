@@ -1,2 +1,7 @@
-pub mod Reading
+pub mod LineLemmas
+pub mod ManifestLemmas
+pub mod Clocking
+pub mod RowsRead
 pub mod Keeping
+pub mod Recording
+pub mod Scripting

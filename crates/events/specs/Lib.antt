@@ -1,3 +1,9 @@
+pub mod Fields
+pub mod Commands
+pub mod Lines
+pub mod Manifests
+pub mod Clocks
+pub mod Places
 pub mod Scripts
 pub mod Rows
 pub mod Records

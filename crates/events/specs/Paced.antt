@@ -1,7 +1,7 @@
 -- Steps with the ticks of a clock.
 use Rattle.std.specs.Prelude.{Bool, List, [], if◌then◌else◌, suc, zero, ℕ, ◌++◌, ◌∷◌, ◌≡◌}
-use Rattle.playtext.specs.Clocks.{passed, strikes}
-use Rattle.playtext.specs.declared.clock.Clock.{Clock}
+use Rattle.events.specs.Clocks.{passed, strikes}
+use Rattle.events.specs.declared.clock.Clock.{Clock}
 use Rattle.unixmodel.specs.declared.event.Event.{Event}
 use Rattle.unixmodel.specs.declared.event.Event.TheVariants.{Step, Tick}
 

@@ -5,7 +5,7 @@ use Rattle.std.specs.Fmt.{decimal, digit_glyph}
 use Rattle.std.specs.List.{All}
 use Rattle.events.specs.declared.row.Row.{Row}
 use Rattle.events.specs.declared.row.Row.TheVariants.{Keys, Steps, Ticks}
-use Rattle.scripts.specs.Scripts.{MOST}
+use Rattle.events.specs.Fields.{MOST}
 use Rattle.unixmodel.specs.declared.event.Event.{Event}
 use Rattle.unixmodel.specs.declared.event.Event.TheVariants as event
 

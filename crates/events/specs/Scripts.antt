@@ -1,11 +1,11 @@
 -- The events that a script stands for.
 use Rattle.std.specs.Prelude.{List, [], map, replicate, ◌++◌, ◌∷◌, ◌≡◌, ℕ}
-use Rattle.scripts.specs.Commands.{IsCommand}
-use Rattle.scripts.specs.Lines.{AreSaid, IsFaultOf, lines_of}
-use Rattle.scripts.specs.declared.lines.TextFault.{TextFault}
-use Rattle.scripts.specs.declared.lines.TextFault.TheVariants.{NoMemory}
-use Rattle.scripts.specs.declared.script.lines.Command.{Command}
-use Rattle.scripts.specs.declared.script.lines.Command.TheVariants as command
+use Rattle.events.specs.Commands.{IsCommand}
+use Rattle.events.specs.Lines.{AreSaid, IsFaultOf, lines_of}
+use Rattle.events.specs.declared.lines.TextFault.{TextFault}
+use Rattle.events.specs.declared.lines.TextFault.TheVariants.{NoMemory}
+use Rattle.events.specs.declared.script.lines.Command.{Command}
+use Rattle.events.specs.declared.script.lines.Command.TheVariants as command
 use Rattle.unixmodel.specs.declared.event.Event.{Event}
 use Rattle.unixmodel.specs.declared.event.Event.TheVariants.{Key, Step, Tick}
 

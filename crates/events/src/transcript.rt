@@ -1,6 +1,6 @@
 //! A record of events in memory, as the lines of a script.
 ghost use Rattle.std.specs.Prelude.{◌≡◌, ◌∷◌, [], Some, IfOk, IfSome, is_some, true};
-ghost use Rattle.events.specs.Records.{Records};
+ghost use Rattle.events.specs.Records.{Records, noted};
 ghost use Rattle.events.specs.Rows.{IsRow, row_events};
 ghost use Rattle.events.specs.Scripts.{IsScriptOf};
 ghost use Rattle.unixmodel.specs.declared.event.Event.TheVariants.{Key};
@@ -17,7 +17,7 @@ const MOST_EVENTS: u32 = 1_000_000_000;
 
 /// A record of events in memory, as the lines of a script.
 ///
-/// In contracts it is the list of the events, and `None` once some were lost because memory ran out.
+/// In contracts it is what is known of it: its events, or `None` once some were lost because memory ran out.
 #[derive(Drop)]
 pub struct Transcript {
     rows: Vec<Row>,
@@ -27,13 +27,13 @@ pub struct Transcript {
 }
 
 impl Model for Transcript {
-    ghost use Rattle.std.specs.Prelude.{List, Option};
+    ghost use Rattle.std.specs.Prelude.{Option};
     ghost use Rattle.std.specs.List.{All};
+    ghost use Rattle.events.specs.Records.{Kept};
     ghost use Rattle.events.specs.Rows.{IsRow};
     ghost use Rattle.events.specs.Transcripts.{events_in};
-    ghost use Rattle.unixmodel.specs.declared.event.Event.{Event};
 
-    ghost Value = { Option (List Event) };
+    ghost Value = { Option Kept };
 
     ghost view = { λ t. events_in t.is_lost t.rows.items t.last };
 
@@ -43,7 +43,7 @@ impl Model for Transcript {
 impl Transcript {
     /// A record of no events.
     pub fn new(alloc: Global) -> Transcript
-        ensures { result ≡ Some [] }
+        ensures { result ≡ Some (noted []) }
     {
         Transcript {
             rows: Vec::new(alloc),
@@ -79,7 +79,7 @@ impl Transcript {
 
     /// The text of the script that has these events. An error says that memory ran out, now or before.
     pub fn text(&self, alloc: Global) -> Result<String, AllocError>
-        ensures events { IfOk result (λ text. IfSome self.now (λ events. IsScriptOf text.bytes.items events)) }
+        ensures events { IfOk result (λ text. IfSome self.now (λ kept. IsScriptOf text.bytes.items kept.events)) }
         ensures known { IfOk result (λ _. is_some self.now ≡ true) }
     {
         if self.is_lost {
@@ -94,6 +94,10 @@ impl Transcript {
 
 impl Record for Transcript {
     ghost kept = { λ t. t };
+
+    ghost Rest = { Unit {0} };
+
+    ghost rest = { λ t. tt };
 
     fn steps(&mut self, count: u32) {
         match self.last {

@@ -2,25 +2,13 @@
 use Rattle.std.proofs.Common.{Err, IfOk, IfSome, List, None, Ok, Option, Result, Some, [], ap, append-nil, append_assoc}
 use Rattle.std.proofs.Common.{get_or, is_some, length, refl, subst, sym, take, true, ℕ, ◌+◌, ◌++◌, ◌∙◌, ◌∷◌, ◌<◌, ◌≡◌}
 use Rattle.std.proofs.lemmas.List.{take_more}
-use Rattle.events.specs.Records.{Records}
+use Rattle.events.proofs.Recording.{records-then}
+use Rattle.events.specs.Records.{Kept, Records, noted}
 use Rattle.events.specs.Scripts.{IsScriptOf}
 use Rattle.orders.specs.Paths.{events_of, piece_events, pieces_events, steps}
 use Rattle.orders.specs.declared.paths.Path.{Path}
 use Rattle.orders.specs.declared.paths.Piece.{Piece}
 use Rattle.unixmodel.specs.declared.event.Event.{Event}
-
--- events, and more
-pub records-then : (a b c : Option (List Event)) (xs ys : List Event) → Records a b xs → Records b c ys
-    → Records a c (xs ++ ys)
-records-then a b None xs ys f g = tt
-records-then (Some a) (Some b) (Some c) xs ys f g = g ∙ ap (λ es. es ++ ys) f ∙ append_assoc a xs ys
-records-then None (Some b) (Some c) xs ys f g = absurd f
-records-then a None (Some c) xs ys f g = absurd g
-
--- no events
-pub nothing-recorded : (a : Option (List Event)) → Records a a []
-nothing-recorded None = tt
-nothing-recorded (Some es) = sym (append-nil es)
 
 -- ---- pieces
 
@@ -38,27 +26,27 @@ pieces-next ps i d less =
     ∙ ap (λ es. pieces_events (take i ps) ++ es) (append-nil (piece_events (get_or ps i d)))
 
 -- from a record of nothing on, all pieces and more steps are what a path has
-pub path-recorded : (p : Path) (pieces : List Piece) (a b c : Option (List Event)) → a ≡ Some []
+pub path-recorded : (p : Path) (pieces : List Piece) (a b c : Option Kept) → a ≡ Some (noted [])
     → pieces ≡ p.pieces.items → Records a b (pieces_events pieces) → Records b c (steps p.steps)
-    → Records (Some []) c (events_of p)
+    → Records (Some (noted [])) c (events_of p)
 path-recorded p pieces a b c empty is f g =
-    records-then (Some []) b c (pieces_events p.pieces.items) (steps p.steps)
+    records-then (Some (noted [])) b c (pieces_events p.pieces.items) (steps p.steps)
     (subst (λ e. Records e b (pieces_events p.pieces.items)) empty
     (subst (λ ps. Records a b (pieces_events ps)) is f))
     g
 
 -- one piece more is recorded
-pub piece-recorded : (ps : List Piece) (i : ℕ) (d : Piece) (a b c : Option (List Event)) → i < length ps
+pub piece-recorded : (ps : List Piece) (i : ℕ) (d : Piece) (a b c : Option Kept) → i < length ps
     → Records a b (pieces_events (take i ps)) → Records b c (piece_events (get_or ps i d))
     → Records a c (pieces_events (take (i + 1) ps))
 piece-recorded ps i d a b c less f g =
     rw (pieces-next ps i d less) (records-then a b c (pieces_events (take i ps)) (piece_events (get_or ps i d)) f g)
 
 -- a text of what is recorded is one of those events
-pub text-recorded : {T E : Type 0} (r : Result T E) (bytes_of : T → List ℕ) (c : Option (List Event))
-    (events : List Event) → Records (Some []) c events
-    → IfOk r (λ text. IfSome c (λ es. IsScriptOf (bytes_of text) es)) → IfOk r (λ text. is_some c ≡ true)
+pub text-recorded : {T E : Type 0} (r : Result T E) (bytes_of : T → List ℕ) (c : Option Kept)
+    (events : List Event) → Records (Some (noted [])) c events
+    → IfOk r (λ text. IfSome c (λ kept. IsScriptOf (bytes_of text) kept.events)) → IfOk r (λ text. is_some c ≡ true)
     → IfOk r (λ text. IsScriptOf (bytes_of text) events)
 text-recorded (Err fault) bytes_of c events f h known = tt
 text-recorded (Ok text) bytes_of None events f h known = absurd (cc)
-text-recorded (Ok text) bytes_of (Some es) events f h known = subst (λ xs. IsScriptOf (bytes_of text) xs) f h
+text-recorded (Ok text) bytes_of (Some k) events f h known = subst (λ xs. IsScriptOf (bytes_of text) xs) f.0 h

@@ -8,8 +8,8 @@ use Rattle.std.specs.Borrow.{Bor}
 use Rattle.std.proofs.lemmas.List.{take_more}
 use Rattle.events.specs.Scripts.{command_events, script_events}
 use Rattle.explore_command.specs.Keys.{key_of, keys_in}
-use Rattle.scripts.specs.declared.script.lines.Command.{Command}
-use Rattle.scripts.specs.declared.script.lines.Command.TheVariants as command
+use Rattle.events.specs.declared.script.lines.Command.{Command}
+use Rattle.events.specs.declared.script.lines.Command.TheVariants as command
 use Rattle.unixmodel.specs.declared.event.Event.{Event}
 use Rattle.unixmodel.specs.declared.event.Event.TheVariants.{Key, Step, Tick}
 

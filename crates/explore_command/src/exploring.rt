@@ -2,6 +2,7 @@
 ghost use Rattle.std.specs.Prelude.{◌≡◌, IfOk};
 ghost use Rattle.explore_command.specs.Explored.{IsBegun, IsExplored, IsSearched, IsVerdictOf, bounds_of};
 ghost use Rattle.hosts.specs.Fronts.{IsWhole};
+ghost use Rattle.orders.specs.Tidy.{IsTidy};
 
 use crate::drawn_runs::{Drawn, Runner, draw_runs};
 use crate::keys::keys_of;
@@ -11,7 +12,7 @@ use crate::shown::Shown;
 use crate::verdict::Verdict;
 use crate::watcher::{Cause, Want, Watcher};
 use commandline::Explore;
-use explore::{Bounds, Task, Trouble};
+use explore::{Bounds, Task, Trouble, tables_stay_tidy};
 use hosts::{Failure, Front, Host, disk_of, make_folder, print, read, read_image, tell};
 use machine::boot;
 use run_commands::script_of;
@@ -37,9 +38,11 @@ fn boot_machine<'a>(
     image: Front,
     words: &Explore<'a>,
 ) -> Result<Explored, Failure<'a>>
-    ensures { IfOk result
+    ensures begun { IfOk result
         (λ machine. IsWhole image → IsBegun image.bytes.items words.now.frames machine.state) }
+    ensures tidy { IfOk result (λ machine. IsTidy machine.state) }
 {
+    tables_stay_tidy();
     match boot(
         alloc,
         disk_of(image)?,
@@ -173,6 +176,7 @@ fn look_around<'a, H: Host>(
     texts: &Texts,
     host: &mut H,
 ) -> Result<Report, Failure<'a>>
+    requires { IsTidy first.now.state }
     ensures { IfOk result (λ report. IsSearched texts.now.keys.items (bounds_of words.now.reach) first.now.state
         report.searched) }
 {

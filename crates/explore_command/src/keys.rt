@@ -3,7 +3,7 @@ ghost use Rattle.std.specs.Prelude.{◌≡◌, ◌++◌, IfOk, OnOk};
 ghost use Rattle.explore_command.specs.Keys.{keys_in};
 ghost use Rattle.events.specs.Scripts.{command_events, script_events};
 
-use scripts::Command;
+use events::Command;
 use std::alloc::{AllocError, Global};
 
 /// The key that ends a typed line.

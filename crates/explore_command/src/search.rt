@@ -2,6 +2,7 @@
 ghost use Rattle.std.specs.Prelude.{◌≡◌, IfOk, true};
 ghost use Rattle.explore_command.specs.Explored.{IsSearched};
 ghost use Rattle.orders.specs.Missed.{is_nothing};
+ghost use Rattle.orders.specs.Tidy.{IsTidy};
 
 use crate::watched::{Endless, Watched};
 use blockdev::MemDisk;
@@ -41,6 +42,7 @@ pub(crate) fn search<P: Progress>(
     task: Task,
     progress: &mut P,
 ) -> Result<Searched, Trouble>
+    requires { IsTidy first.now.state }
     ensures { IfOk result (IsSearched task.entry.keys.now task.entry.bounds first.now.state) }
 {
     let mut walker = Watched::new(alloc, first, copy_of(alloc, first)?);

@@ -1,6 +1,7 @@
 //! What is shown of an outcome.
-ghost use Rattle.std.specs.Prelude.{IfOk};
+ghost use Rattle.std.specs.Prelude.{IfOk, IfSome, ◌≡◌, true};
 ghost use Rattle.events.specs.Scripts.{IsScriptOf};
+ghost use Rattle.machine.specs.View.{IsUp};
 ghost use Rattle.orders.specs.Paths.{events_of};
 
 use crate::nodes::{Node, NodeFault, nodes_of};
@@ -8,12 +9,11 @@ use crate::script_text::script_text;
 use crate::search::Explored;
 use blockdev::BlockDev;
 use console::Writer;
+use driver::{Detail, Driver, Watch};
+use events::{Command, Unrecorded, parse};
 use explore::{Interrupt, Path};
-use live::play::play;
-use live::{Detail, Watch};
 use machine::{Halt, Machine};
 use reports::{Reporter, Wanted};
-use scripts::parse;
 use std::alloc::{AllocError, Global};
 use sv39::Translate;
 use symbolizer::Symbolizer;
@@ -149,43 +149,96 @@ fn status_of(ended: Result<(), Halt>) -> Result<Option<i32>, ShownFault> {
     }
 }
 
-// Lets a machine go along a script, watched up to its end. Returns the status of process 1, if it has ended. A machine
-// that had stopped is refused.
-fn follow(
-    alloc: Global,
-    machine: &mut Explored,
-    text: &str,
-    namer: &mut Namer,
-    out: &mut Writer<Vec<u8>>,
-) -> Result<Option<i32>, ShownFault> {
-    let Ok(commands) = parse(alloc, text.as_bytes()) else {
-        return Err(ShownFault::NoMemory);
-    };
-    let Ok(()) = machine.steps(0, out) else {
-        return Err(ShownFault::Machine);
-    };
-    let ended = play(machine, commands.as_slice(), namer, out);
-    namer.end(machine);
-    status_of(ended)
+// A machine that went along a script, who looked on, what was printed, and how that ended.
+#[derive(Drop)]
+struct Followed {
+    machine: Explored,
+    namer: Namer,
+    console: Vec<u8>,
+    ended: Result<(), Halt>,
 }
 
-/// What the script of a path leads to, shown by a machine of the same size.
+// Lets a machine go along a script, watched up to its end.
+fn follow(alloc: Global, machine: Explored, script: &[Command<'_>]) -> Followed
+    requires { IsUp machine }
+{
+    let mut driver = Driver::new(machine, Unrecorded, Namer::new(alloc), Vec::new(alloc));
+    let ended = driver.run(script);
+    let (machine, _, mut namer, out) = driver.into_parts();
+    namer.end(&machine);
+    let (console, _) = out.into_parts();
+    Followed {
+        machine,
+        namer,
+        console,
+        ended,
+    }
+}
+
+// Whether a machine takes events.
+fn takes_events(alloc: Global, machine: &mut Explored) -> bool
+    ensures { result ≡ true → IsUp machine.new }
+{
+    let mut out = Writer::new(Vec::new(alloc));
+    let Ok(()) = machine.steps(0, &mut out) else {
+        return false;
+    };
+    true
+}
+
+// Takes the machine of a slot, as a copy of the first one. One that had stopped is refused.
+fn take_copy(alloc: Global, first: &Explored, slot: &mut Option<Explored>) -> Option<Explored>
+    ensures { IfSome result IsUp }
+{
+    let mut machine = slot.take()?;
+    if machine.copy_from(first) && takes_events(alloc, &mut machine) {
+        Some(machine)
+    } else {
+        None
+    }
+}
+
+// The commands of a script.
+fn commands_of(alloc: Global, text: &str) -> Result<Vec<Command<'_>>, ShownFault> {
+    match parse(alloc, text.as_bytes()) {
+        Ok(commands) => Ok(commands),
+        Err(_) => Err(ShownFault::NoMemory),
+    }
+}
+
+// Lets a copy of the first machine go along a script.
+fn follow_text(
+    alloc: Global,
+    first: &Explored,
+    slot: &mut Option<Explored>,
+    text: &str,
+) -> Result<Followed, ShownFault> {
+    let commands = commands_of(alloc, text)?;
+    match take_copy(alloc, first, slot) {
+        Some(machine) => Ok(follow(alloc, machine, commands.as_slice())),
+        None => Err(ShownFault::Machine),
+    }
+}
+
+/// What the script of a path leads to, shown by the machine of a slot, which has the size of the first one. The slot is
+/// empty after an error.
 pub(crate) fn show(
     alloc: Global,
     first: &Explored,
-    machine: &mut Explored,
+    slot: &mut Option<Explored>,
     path: &Path,
 ) -> Result<Shown, ShownFault>
     ensures { IfOk result (λ shown. IsScriptOf shown.script.bytes.items (events_of path.now)) }
 {
     let script = script_text(alloc, path)?;
-    if !machine.copy_from(first) {
-        return Err(ShownFault::Machine);
-    }
-    let mut namer = Namer::new(alloc);
-    let mut out = Writer::new(Vec::new(alloc));
-    let status = follow(alloc, machine, script.as_str(), &mut namer, &mut out)?;
-    let nodes = nodes_of(alloc, machine)?;
+    let Followed {
+        mut machine,
+        namer,
+        console,
+        ended,
+    } = follow_text(alloc, first, slot, script.as_str())?;
+    let nodes = nodes_of(alloc, &mut machine);
+    *slot = Some(machine);
     let Namer {
         waits,
         is_typed_for,
@@ -194,9 +247,9 @@ pub(crate) fn show(
     Ok(Shown {
         script,
         ticks: ticks_of(path),
-        status,
-        console: out.into_inner(),
-        nodes,
+        status: status_of(ended)?,
+        console,
+        nodes: nodes?,
         waits: waits?,
         is_typed_for,
     })

@@ -1,5 +1,6 @@
 //! A machine that goes along lists of events, and is watched for a process that runs on for ever.
 ghost use Rattle.std.specs.Prelude.{◌≡◌};
+ghost use Rattle.orders.specs.Tidy.{IsTidy};
 
 use blockdev::Duplicate;
 use explore::{Along, Path, Piece, Trouble, Walker};
@@ -27,6 +28,7 @@ pub(crate) struct Watched<'a, D: Duplicate, T: Translate> {
 impl<'a, D: Duplicate, T: Translate> Watched<'a, D, T> {
     /// At the beginning, with a machine of the same size, whatever its state is.
     pub(crate) fn new(alloc: Global, first: &'a Machine<D, T>, machine: Machine<D, T>) -> Self
+        requires { IsTidy first.now.state }
         ensures { result.along.first.now ≡ first.now }
     {
         Watched {
@@ -88,6 +90,10 @@ impl<'a, D: Duplicate, T: Translate> Walker for Watched<'a, D, T> {
 
     fn is_time_awaited(&self) -> bool {
         self.along.is_time_awaited()
+    }
+
+    fn gives_turn_back(&self) -> bool {
+        self.along.gives_turn_back()
     }
 
     fn compute(&mut self, most: u32) -> Result<u32, Trouble> {

@@ -71,7 +71,8 @@ pub(crate) struct Watcher<'a, 'b, H: Host> {
     alloc: Global,
     words: &'b Explore<'a>,
     first: &'b Explored,
-    machine: Explored,
+    // The machine that shows outcomes, except while one is shown.
+    slot: Option<Explored>,
     want: &'b Want<'b>,
     host: &'b mut H,
     // The outcomes so far.
@@ -110,7 +111,7 @@ impl<'a, 'b, H: Host> Watcher<'a, 'b, H> {
             alloc,
             words,
             first,
-            machine,
+            slot: Some(machine),
             want,
             host,
             shown: Vec::new(alloc),
@@ -145,7 +146,7 @@ impl<'a, 'b, H: Host> Watcher<'a, 'b, H> {
 
     // The outcome to which a path leads.
     fn shown_by(&mut self, path: &Path) -> Result<Shown, Failure<'a>> {
-        match show(self.alloc, self.first, &mut self.machine, path) {
+        match show(self.alloc, self.first, &mut self.slot, path) {
             Ok(shown) => Ok(shown),
             Err(ShownFault::NoMemory) => Err(Failure::NoMemory),
             Err(ShownFault::Machine) => Err(Failure::Machine),

@@ -1,18 +1,18 @@
 //! A run that a debugger debugs.
 ghost use Rattle.std.specs.Prelude.{IfOk};
 ghost use Rattle.gdbruns.specs.Debugged.{IsDebugged};
-ghost use Rattle.live.specs.Plays.{script_events};
+ghost use Rattle.events.specs.Scripts.{script_events};
 
 use crate::link::{Link, LinkFault};
 use crate::loaded::loads_the_same;
 use crate::recording::write_script;
 use blockdev::MemDisk;
 use commandline::Gdb;
+use events::Command;
 use gdbruns::{Limits, RunFault, debug_disk};
 use gdbserver::Peer;
 use hosts::{Failure, Front, Host, disk_of, read, read_image, tell};
 use run_commands::{programs_named, programs_of, script_of};
-use scripts::Command;
 use std::alloc::Global;
 use std::io::Write;
 use symbolizer::Program;

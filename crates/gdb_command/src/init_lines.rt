@@ -1,4 +1,6 @@
 //! What gdb needs before it connects.
+ghost use Rattle.hosts.specs.Reports.{IsPrintStatus};
+
 use hosts::print;
 use std::io::Write;
 
@@ -21,6 +23,8 @@ end
 ";
 
 /// Prints the lines, and returns the status to exit with.
-pub fn print_init_lines<W: Write, E: Write>(stdout: &mut W, stderr: &mut E) -> u8 {
+pub fn print_init_lines<W: Write, E: Write>(stdout: &mut W, stderr: &mut E) -> u8
+    ensures { IsPrintStatus result }
+{
     print(&INIT_LINES, stdout, stderr)
 }

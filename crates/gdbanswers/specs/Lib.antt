@@ -1,3 +1,4 @@
 pub mod Alive
+pub mod Calls
 pub mod Features
 pub mod Files

@@ -1,4 +1,6 @@
 //! The conditions of a break, as gdb sends them: `X`, the length of the code, `,` and its digits, for each.
+ghost use Rattle.std.specs.Prelude.{IfOk, length, vec_len, ◌≤◌};
+
 use gdbwire::{cut, number, push_decoded};
 use std::alloc::{AllocError, Global};
 
@@ -23,10 +25,12 @@ fn code_of(alloc: Global, digits: &[u8]) -> Result<Option<Vec<u8>>, AllocError> 
 }
 
 /// The codes of the conditions that a text has. There are none where one is ill-formed, so that the break always stops.
-pub fn conditions_in(alloc: Global, text: &[u8]) -> Result<Vec<Vec<u8>>, AllocError> {
+pub fn conditions_in(alloc: Global, text: &[u8]) -> Result<Vec<Vec<u8>>, AllocError>
+    ensures { IfOk result (λ codes. vec_len codes ≤ length text.now) }
+{
     let mut codes = Vec::new(alloc);
     let mut rest = text;
-    for _condition in 0..text.len() {
+    'condition: for _condition in 0..text.len() {
         if rest.first() != Some(&b'X') {
             break;
         }

@@ -1,4 +1,8 @@
 //! What is asked by gdb's `monitor`.
+ghost use Rattle.std.specs.Prelude.{IfOk, IfSome};
+ghost use Rattle.std.specs.List.{All};
+ghost use Rattle.gdbanswers.specs.Calls.{IsCall};
+
 use std::alloc::{AllocError, Global};
 use tracetext::CallSet;
 
@@ -68,7 +72,9 @@ pub fn order_in(text: &str) -> Option<Order<'_>> {
 }
 
 /// The numbers of calls by their names, with commas between them; `None` where one is no call's. No names are no calls.
-pub fn calls_named(alloc: Global, names: &str) -> Result<Option<Vec<u64>>, AllocError> {
+pub fn calls_named(alloc: Global, names: &str) -> Result<Option<Vec<u64>>, AllocError>
+    ensures { IfOk result (λ found. IfSome found (λ calls. All IsCall calls.items)) }
+{
     let mut calls = Vec::new(alloc);
     if names.is_empty() {
         return Ok(Some(calls));
@@ -76,7 +82,7 @@ pub fn calls_named(alloc: Global, names: &str) -> Result<Option<Vec<u64>>, Alloc
     let Ok(set) = CallSet::parse(names) else {
         return Ok(None);
     };
-    for number in 1..=21_u32 {
+    'number: for number in 1..=21_u32 {
         if set.contains(number) {
             calls.push(u64::from(number))?;
         }

@@ -1,5 +1,6 @@
 //! Processes and times, in words.
-ghost use Rattle.std.specs.Prelude.{◌≡◌, ◌++◌, OnOk};
+ghost use Rattle.std.specs.Prelude.{◌≡◌, ◌++◌, IfOk, OnOk, codes, length};
+ghost use Rattle.std.specs.Fmt.{decimal};
 ghost use Rattle.gdbreplies.specs.Replies.{description, part_sent};
 ghost use Rattle.gdbwire.specs.Hex.{hex_bytes};
 
@@ -94,9 +95,14 @@ pub fn who_is_there(
 }
 
 /// The time.
-pub fn time_words(alloc: Global, timeline: &Timeline) -> Result<String, AllocError> {
+pub fn time_words(alloc: Global, timeline: &Timeline) -> Result<String, AllocError>
+    ensures { IfOk result (λ text. text.bytes.items ≡ codes "after " ++ decimal timeline.now.at ++ codes " of "
+        ++ decimal (length timeline.now.events) ++ codes " events\n") }
+{
     let (at, count) = (timeline.at(), timeline.count());
-    format!(in alloc; "after {at} of {count} events\n")
+    let mut text = String::new(alloc);
+    write!(text, "after {at} of {count} events\n")?;
+    Ok(text)
 }
 
 /// Puts a text at the end, two digits a byte.

@@ -3,7 +3,7 @@ use Rattle.std.proofs.Common.{◌≡◌, ◌∙◌, ◌+◌, ◌<◌, ℕ, List,
 use Rattle.std.proofs.Common.{replicate, sym, take}
 use Rattle.gdbruns.specs.Debugged.{IsDebugged}
 use Rattle.gdbserver.specs.Debugging.{OnlyAdds}
-use Rattle.live.proofs.EventLemmas.{press-next}
+use Rattle.events.proofs.Scripting.{press-next}
 use Rattle.timeline.specs.Line.{Line}
 use Rattle.unixmodel.specs.declared.event.Event.{Event}
 use Rattle.unixmodel.specs.declared.event.Event.TheVariants.{Key}

@@ -1,13 +1,13 @@
 //! A run that a debugger debugs.
 ghost use Rattle.std.specs.Prelude.{IfOk};
 ghost use Rattle.gdbruns.specs.Debugged.{IsDebugged};
-ghost use Rattle.live.specs.Plays.{script_events};
+ghost use Rattle.events.specs.Scripts.{script_events};
 
 use crate::script_events::events_in;
 use blockdev::MemDisk;
+use events::Command;
 use gdbserver::{Peer, debug};
 use machine::{BootFault, boot};
-use scripts::Command;
 use std::alloc::Global;
 use sv39::{Plain, Recent};
 use timeline::{Events, Timeline};
@@ -36,7 +36,7 @@ pub enum RunFault {
 }
 
 // How many copies of a machine are kept: as many as fit into the memory that all may take, beside the one of the start
-// and the one with which a motion back goes on.
+// and the one from which small motions back begin.
 fn most_copies(limits: Limits, disk_bytes: usize) -> usize {
     let most = u64::from(limits.megabytes) * (1 << 20);
     let frames = u64::from(limits.frames) * FRAME_BYTES;

@@ -1,9 +1,9 @@
 //! The events of a script, as a list.
 ghost use Rattle.std.specs.Prelude.{◌≡◌, ◌++◌, IfOk, OnOk, map};
-ghost use Rattle.live.specs.Plays.{events_of, script_events};
+ghost use Rattle.events.specs.Scripts.{command_events, script_events};
 ghost use Rattle.unixmodel.specs.declared.event.Event.TheVariants.{Key};
 
-use scripts::Command;
+use events::Command;
 use std::alloc::Global;
 use timeline::{Events, NoRoom};
 use unixmodel::event::Event;
@@ -23,7 +23,7 @@ fn push_keys(events: &mut Events, keys: &[u8]) -> Result<(), NoRoom>
 
 // Puts the events of one command at the end.
 fn push_command(events: &mut Events, command: &Command<'_>) -> Result<(), NoRoom>
-    ensures { OnOk result (events.new ≡ events.old ++ events_of command.now) }
+    ensures { OnOk result (events.new ≡ events.old ++ command_events command.now) }
 {
     match command {
         Command::Step(times) => events.push(Event::Step, *times),

@@ -25,9 +25,9 @@ use Rattle.imagerules.specs.Content.{image_of}
 use Rattle.imagerules.proofs.Spelling.{image_of-blocks}
 use Rattle.listings.specs.Listed.{IsDirectoryOf}
 use Rattle.listings.specs.Opened.{IsFileOf, IsPut}
-use Rattle.scripts.specs.Lines.{AreSaid, lines_of}
-use Rattle.scripts.specs.Manifests.{IsLine}
-use Rattle.scripts.specs.declared.manifest.Line.{Line}
+use Rattle.events.specs.Lines.{AreSaid, lines_of}
+use Rattle.events.specs.Manifests.{IsLine}
+use Rattle.events.specs.declared.manifest.Line.{Line}
 use Rattle.unixmodel.specs.Assembly as the
 use Rattle.unixmodel.specs.Files.{Files}
 use Rattle.unixmodel.specs.Formats.{Format}

@@ -3,7 +3,7 @@ use Rattle.std.proofs.Common.{get_or, length, List, None, Option, Some, ℕ, ◌
 use Rattle.hosts.specs.Files.{HostFiles}
 use Rattle.image_commands.specs.Entries.{IsEntryOf, counts_in}
 use Rattle.imagemake.specs.declared.manifest.Entry.{Entry}
-use Rattle.scripts.specs.declared.manifest.Line.{Line}
+use Rattle.events.specs.declared.manifest.Line.{Line}
 
 -- how much room the entries of these lines leave: none where the files are too long
 abbrev pub Leaves : ℕ → ℕ → List Entry → Option ℕ → Type 0

@@ -3,8 +3,8 @@ use Rattle.std.specs.Prelude.{IfSome, List, Option, Some, get_or, if◌then◌el
 use Rattle.std.specs.Prelude.{◌*◌, ◌+◌, ◌<◌, ◌≡◌, ◌⊎◌}
 use Rattle.std.specs.List.{sum_by}
 use Rattle.hosts.specs.Files.{HostFiles}
-use Rattle.scripts.specs.declared.manifest.Line.{Line}
-use Rattle.scripts.specs.declared.manifest.Line.TheVariants as line
+use Rattle.events.specs.declared.manifest.Line.{Line}
+use Rattle.events.specs.declared.manifest.Line.TheVariants as line
 use Rattle.imagemake.specs.declared.manifest.Entry.{Entry}
 use Rattle.imagemake.specs.declared.manifest.Thing.{Thing}
 use Rattle.imagemake.specs.declared.manifest.Thing.TheVariants as thing

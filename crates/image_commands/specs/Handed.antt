@@ -13,9 +13,9 @@ use Rattle.image_commands.specs.Entries.{IsManifestOf}
 use Rattle.imagecheck.specs.declared.rules.Summary.{Summary}
 use Rattle.imagemake.specs.Making.{MakesImage, meaning}
 use Rattle.imagemake.specs.declared.manifest.Entry.{Entry}
-use Rattle.scripts.specs.Lines.{AreSaid, lines_of}
-use Rattle.scripts.specs.Manifests.{IsLine}
-use Rattle.scripts.specs.declared.manifest.Line.{Line}
+use Rattle.events.specs.Lines.{AreSaid, lines_of}
+use Rattle.events.specs.Manifests.{IsLine}
+use Rattle.events.specs.declared.manifest.Line.{Line}
 use Rattle.listings.specs.Listed.{IsDirectoryOf}
 use Rattle.listings.specs.Opened.{IsFileOf, IsPut}
 use Rattle.unixmodel.specs.Assembly as the

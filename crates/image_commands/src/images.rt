@@ -10,18 +10,18 @@ ghost use Rattle.blockdev.specs.Blocks.{blocks_of};
 ghost use Rattle.imagerules.specs.Content.{image_of};
 ghost use Rattle.image_commands.specs.Handed.{Checks, Known, Lists, MakesIn, MigratesIn};
 ghost use Rattle.listings.specs.Listed.{IsDirectoryOf};
-ghost use Rattle.scripts.specs.Lines.{AreSaid, lines_of};
-ghost use Rattle.scripts.specs.Manifests.{IsLine};
+ghost use Rattle.events.specs.Lines.{AreSaid, lines_of};
+ghost use Rattle.events.specs.Manifests.{IsLine};
 ghost use Rattle.migrate.specs.Copies.{Overfills};
 
 use crate::openings::disk_at;
 use blockdev::{BLOCK_SIZE, MemDisk};
 use commandline::{Check, Ls, Migrate, Mkfs};
+use events::{Line, TextFault, parse};
 use hosts::{Failure, Host, bytes_of, read_front, write};
 use image::{Entry, Manifest, MigrateFault, Summary, Thing};
 use layout::{Format, LONGEST, MOST_BLOCKS};
 use listings::{ListingFault, write_directory, write_tree};
-use scripts::{Line, TextFault, parse};
 use std::alloc::{AllocError, Global};
 use std::io::Write;
 

@@ -6,26 +6,20 @@ use Rattle.hosts.specs.declared.report.End.{End}
 use Rattle.hosts.specs.declared.report.End.TheVariants.{Halted, Running}
 use Rattle.machine.specs.View.{IsUp, View}
 use Rattle.unixmodel.specs.declared.event.Event.{Event}
-use Rattle.std.specs.Result.{IsErrAnd}
 use Rattle.std.proofs.Common.{[], ap, append-nil, Bool, drop, Err, false, inr, List, None, Ok, Option, refl, Result}
-use Rattle.std.proofs.Common.{Some, subst, sym, take, true, ℕ, ℤ, ◌∙◌, ◌≡◌, IfErr}
+use Rattle.std.proofs.Common.{Some, subst, sym, take, true, ℕ, ℤ, ◌∙◌, ◌≡◌}
 use Rattle.std.proofs.KnownBytes.{Appends-kept}
 use Rattle.std.proofs.lemmas.List.{take-append-drop}
 use Rattle.calls.specs.declared.halt.Halt.TheVariants as halt
+use Rattle.driver.specs.Tails.{written_of}
+use Rattle.driver.proofs.Tails.{written-appends}
 use Rattle.machine.proofs.RunLemmas.{begins_both}
-use Rattle.run_commands.specs.Runs.{IsPlayed, Leaves, PlaysOut, Saves, failing_count, failing_identity, IsImageRun}
-use Rattle.run_commands.specs.Runs.{IsRunWith, IsUnbootedWith}
+use Rattle.run_commands.specs.Runs.{IsPlayed, Leaves, PlaysOut, Saves}
 use Rattle.console.specs.Output.{AppendsBeginning}
-use Rattle.machine.specs.Gives.{DeviceFailsIn, IsDone, RunGives}
+use Rattle.machine.specs.Gives.{ConsoleFailsIn, DeviceFailsIn, IsDone, RunGives}
 use Rattle.machine.specs.Saved.{SaveGives}
 use Rattle.unixmodel.specs.Calls.{After}
 use Rattle.unixmodel.specs.Run.{run}
-use Rattle.std.specs.Prelude.{option_map}
-use Rattle.std.specs.Int.NonZero.{non_zero_u64_get}
-use Rattle.std.specs.declared.num.NonZeroU64.{NonZeroU64}
-use Rattle.blockdev.specs.Disk.{Failing}
-use Rattle.machine.specs.Booted.{IsUnbooted}
-use Rattle.machine.specs.declared.fault.BootFault.{BootFault}
 
 -- ---- what is written out
 
@@ -111,6 +105,67 @@ plays-through old new from before to mid after e f keeps events rising ended wri
     (subst (λ b. RunGives old new events b mid rising ended) e
     (subst (λ t. RunGives old new events from t rising ended) f k))
 
+-- ---- all that a writer took, where more was put out
+
+module _ (old new : View) (before after : Option (List ℕ)) where
+  done-taken : (a : After) (halted : Option ℤ) → IsDone old new a before after halted
+      → IsDone old new a (written_of before) (written_of after) halted
+  done-taken a halted k = record {
+    state = k.state;
+    halts = k.halts;
+    sound = k.sound;
+    printed = written-appends before after a.bytes k.printed;
+    same_device = k.same_device;
+    later = k.later;
+  }
+
+  device-taken : (events : List Event) → DeviceFailsIn old new events before after
+      → DeviceFailsIn old new events (written_of before) (written_of after)
+  device-taken events k = record {
+    done = k.done;
+    more = k.more;
+    goes = k.goes;
+    fails = record {
+      rises = k.fails.rises;
+      later = k.fails.later;
+      failed = k.fails.failed;
+      printed = written-appends before after _ k.fails.printed;
+      same_device = k.fails.same_device;
+    };
+  }
+
+  console-taken : (events : List Event) (rising : Type 0) → ConsoleFailsIn old new events before after rising
+      → ConsoleFailsIn old new events (written_of before) (written_of after) rising
+  console-taken events rising k = record {
+    rises = k.rises;
+    failed = k.failed;
+    printed = record {
+      front = k.printed.front;
+      rest = k.printed.rest;
+      parts = k.printed.parts;
+      took = written-appends before after k.printed.front k.printed.took;
+    };
+    done = k.done;
+    more = k.more;
+    goes = k.goes;
+    files = k.files;
+    same_device = k.same_device;
+    later = k.later;
+  }
+
+  pub run-taken : (events : List Event) (rising : Type 0) (r : Result (Unit {0}) Halt)
+      → RunGives old new events before after rising r
+      → RunGives old new events (written_of before) (written_of after) rising r
+  run-taken events rising (Ok u) k = (k.0, done-taken (run old.state events) None k.1)
+  run-taken events rising (Err (halt.InitEnded status)) k = (k.0, done-taken (run old.state events) (Some status) k.1)
+  run-taken events rising (Err halt.Device) k = (k.0, device-taken events k.1)
+  run-taken events rising (Err halt.Console) k = (k.0, console-taken events rising k.1)
+  run-taken events rising (Err halt.Halted) k = record {
+    stopped = k.stopped;
+    same = k.same;
+    printed = written-appends before after [] k.printed;
+  }
+
 -- ---- what is left
 
 module _ {D : Type 0} (content : D → List (List ℕ)) (identity : D → List ℕ) (count : D → ℕ) (first last : View)
@@ -147,33 +202,3 @@ module _ {D : Type 0} (content : D → List (List ℕ)) (identity : D → List �
   leaves-unsaved end halt.Halted is zero k s = let bad : true ≡ false = sym s
       ∙ (all-done end zero k).1.sound in absurd (cc)
   leaves-unsaved end _ is zero k s = absurd s
-
--- ---- a run from a disk of which one access fails
-
-module _ {D : Type 0} (identity : D → List ℕ) (count : D → ℕ) (fail : Option NonZeroU64) (n : NonZeroU64) (disk : D)
-    (failing : Failing D) (is : fail ≡ Some n) (device : failing.device ≡ disk)
-    (left : failing.left ≡ non_zero_u64_get n) where
-  -- what runs from the disk with its access that fails
-  pub runs-failing : (content : D → List (List ℕ)) (frames : ℕ) (events : List Event) (before after : Option (List ℕ))
-      (saves : Bool) (end : End) (kept : Option (Failing D)) (disk' : Option D)
-      → option_map (λ (d : Failing D). d.device) kept ≡ disk'
-      → IsImageRun (λ (d : Failing D). content d.device) (failing_identity identity) (failing_count count) failing
-      frames events before after saves end kept
-      → IsRunWith content identity count fail disk frames events before after saves end disk'
-  runs-failing content frames events before after saves end kept disk' inner runs = rw is (record {
-    failing = kept;
-    inner = inner;
-    runs = rw (← device, ← left) runs;
-  })
-
-  -- what doesn't boot from it
-  pub unbooted-failing : (image : List ℕ) (frames : ℕ) (fault : BootFault)
-      → IsUnbooted (failing_identity identity) (failing_count count) failing image frames fault
-      → IsUnbootedWith identity count fail disk image frames fault
-  unbooted-failing image frames fault why = rw is (rw (← device, ← left) why)
-
--- what holds of a fault holds of the result that passes it on
-pub passed-on : {T : Type 0} (r : Result T BootFault) (fault : BootFault) (Why : BootFault → Type 0)
-    → IsErrAnd r (λ f. f ≡ fault) → Why fault → IfErr r Why
-passed-on (Ok x) fault Why is why = tt
-passed-on (Err f) fault Why is why = subst Why (sym is) why

@@ -1,22 +1,26 @@
--- How a session ends whose bytes are written out, and how a play does.
+-- How a session ends whose bytes are written out.
 use Rattle.std.specs.Io.KnownBytes.{Keeps}
 use Rattle.calls.specs.declared.halt.Halt.{Halt}
+use Rattle.driver.specs.Driven.{Printed}
+use Rattle.driver.specs.Pacing.{Follows}
+use Rattle.driver.specs.Sessions.{Ends, IsSession}
+use Rattle.driver.specs.Tails.{written_of}
+use Rattle.driver.specs.declared.terminal.Given.{Given}
+use Rattle.events.specs.Records.{Kept}
 use Rattle.hosts.specs.Reports.{end_of}
 use Rattle.hosts.specs.declared.report.End.{End}
 use Rattle.hosts.specs.declared.report.End.TheVariants.{Halted}
 use Rattle.machine.specs.View.{IsUp, View}
 use Rattle.unixmodel.specs.declared.event.Event.{Event}
-use Rattle.std.proofs.Common.{[], append-nil, arith, Bool, Err, false, inl, inr, List, Ok, Option, refl, Result, subst}
-use Rattle.std.proofs.Common.{suc, sym, true, zero, ℕ, ◌∙◌, ◌≡◌, ◌≢◌}
+use Rattle.std.proofs.Common.{[], append-nil, arith, Bool, Err, false, inl, inr, List, Ok, Option, refl, Result}
+use Rattle.std.proofs.Common.{subst, suc, sym, true, zero, ℕ, ◌∙◌, ◌≡◌, ◌≢◌}
+use Rattle.std.proofs.KnownBytes.{Keeps-trans}
 use Rattle.calls.specs.declared.halt.Halt.TheVariants as halt
-use Rattle.run_commands.proofs.Ends.{plays-through}
-use Rattle.run_commands.specs.Seats.{AreOf, IsLeft, PlayedOut, SitsOut}
-use Rattle.live.specs.declared.terminal.Given.{Given}
-use Rattle.live.specs.Sessions.{Ends, Follows, IsSession}
-use Rattle.player.specs.Played.{IsPlayed}
+use Rattle.run_commands.proofs.Ends.{plays-through, run-taken}
+use Rattle.run_commands.specs.Seats.{AreOf, IsLeft, SitsOut}
 use Rattle.unixmodel.specs.Failures.{Rises}
 
-are-of : (all events : List Event) (ended : Result (Unit {0}) Halt) (written : Bool) → Follows all events ended
+are-of : (all events : List Event) (ended : Result (Unit {0}) Halt) (written : Bool) → Follows all ended events
     → AreOf events all (end_of ended written)
 are-of all events (Ok u) true f = f
 are-of all events (Ok u) false f = ([], append-nil events ∙ f)
@@ -36,7 +40,7 @@ is-left gave failed fails (Err why) true e f x = tt
 is-left gave failed fails _ _ e f x = tt
 
 -- a run whose output failed is one whose console failed
-ended-as : {fails : ℕ} {end : End} (ended : Result (Unit {0}) Halt) (P : End → Type 0) (written : Bool)
+pub ended-as : {fails : ℕ} {end : End} (ended : Result (Unit {0}) Halt) (P : End → Type 0) (written : Bool)
     → ((w : Bool) → (w ≡ true → fails ≡ 0) → P (end_of ended w)) → (fails ≡ 0 → end ≡ end_of ended written)
     → (fails ≢ 0 → end ≡ Halted halt.Console) → P end
 ended-as {fails} {end} ended P written has sound fault = by-count fails refl
@@ -45,40 +49,32 @@ ended-as {fails} {end} ended P written has sound fault = by-count fails refl
     by-count zero is = subst P (sym (sound is)) (has written (λ w. is))
     by-count (suc n) is = subst P (sym (fault (λ z. absurd (omega (arith, is, z))))) (has false (λ w. absurd (cc)))
 
-module _ {quantum : ℕ} {gives later : Option (List Given)} {kept keeps : Option (List Event)} {old new : View}
-    {from before to mid after : Option (List ℕ)} {failed fails : ℕ} {ended : Result (Unit {0}) Halt}
-    (e : from ≡ before) (f : to ≡ mid) (same : Keeps mid after) (none : failed ≡ 0) (up : IsUp old)
-    (h : IsSession quantum gives later old new from to failed fails kept keeps ended) where
-  sits-with : (written : Bool) → (written ≡ true → fails ≡ 0)
+module _ {quantum : ℕ} {gives later : Option (List Given)} {kept keeps : Option Kept} {old new : View}
+    {from to : Printed} {before after : Option (List ℕ)} (mid : Option (List ℕ)) {ended : Result (Unit {0}) Halt}
+    (wrote : written_of from.contents ≡ before) (keep : Keeps (written_of to.contents) mid) (same : Keeps mid after)
+    (none : from.failed ≡ 0) (up : IsUp old)
+    (h : IsSession quantum gives later old new from to kept keeps ended) where
+  sits-with : (written : Bool) → (written ≡ true → to.failed ≡ 0)
       → SitsOut quantum gives later kept keeps old new before after (end_of ended written)
-  sits-with written sound = record {
-    gave = h.gave;
-    first = h.first;
-    events = h.given.events;
-    follows = are-of _ h.given.events ended written h.given.follows;
-    records = h.given.records;
-    left = is-left h.gave failed fails ended written none sound h.ends;
-    plays = plays-through old new from before to mid after e f same h.given.events (Rises failed fails) ended written
-        up h.given.runs;
-  }
+  sits-with written sound =
+      let events = h.given.events in
+      let rising = Rises from.failed to.failed in
+      record {
+        gave = h.gave;
+        first = h.first;
+        events = events;
+        follows = are-of _ events ended written h.given.wanted;
+        records = h.given.gives.records;
+        left = is-left h.gave from.failed to.failed ended written none sound h.ends;
+        plays = plays-through old new (written_of from.contents) before (written_of to.contents)
+            (written_of to.contents) after wrote refl (Keeps-trans (written_of to.contents) mid after keep same) events
+            rising ended written up
+            (run-taken old new from.contents to.contents events rising ended h.given.gives.runs);
+      }
 
-  pub sits-out : {end : End} (written : Bool) → (fails ≡ 0 → end ≡ end_of ended written)
-      → (fails ≢ 0 → end ≡ Halted halt.Console) → SitsOut quantum gives later kept keeps old new before after end
-  sits-out written = ended-as ended (SitsOut quantum gives later kept keeps old new before after) written sits-with
-
-module _ {kept keeps : Option (List Event)} {old new : View} {from before to mid after : Option (List ℕ)}
-    {failed fails : ℕ} {ended : Result (Unit {0}) Halt}
-    (e : from ≡ before) (f : to ≡ mid) (same : Keeps mid after) (up : IsUp old)
-    (h : IsPlayed old new from to failed fails kept keeps ended) where
-  played-with : (written : Bool) → (written ≡ true → fails ≡ 0)
-      → PlayedOut kept keeps old new before after (end_of ended written)
-  played-with written sound = record {
-    events = h.events;
-    records = h.records;
-    plays = plays-through old new from before to mid after e f same h.events (Rises failed fails) ended written up
-        h.runs;
-  }
-
-  pub played-out : {end : End} (written : Bool) → (fails ≡ 0 → end ≡ end_of ended written)
-      → (fails ≢ 0 → end ≡ Halted halt.Console) → PlayedOut kept keeps old new before after end
-  played-out written = ended-as ended (PlayedOut kept keeps old new before after) written played-with
+  pub sits-out : {fails : ℕ} {end : End} → fails ≡ to.failed → (written : Bool)
+      → (fails ≡ 0 → end ≡ end_of ended written) → (fails ≢ 0 → end ≡ Halted halt.Console)
+      → SitsOut quantum gives later kept keeps old new before after end
+  sits-out {fails} {end} is written sound fault =
+      ended-as {fails = fails} ended (SitsOut quantum gives later kept keeps old new before after) written
+      (λ w few. sits-with w (λ x. sym is ∙ few x)) sound fault

@@ -1,2 +1,5 @@
+pub mod Files
 pub mod Runs
 pub mod Seats
+pub mod Shows
+pub mod Tellings

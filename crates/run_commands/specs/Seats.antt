@@ -1,13 +1,14 @@
--- How a session at a keyboard ends, and what it leaves; how a play ends.
-use Rattle.std.specs.Prelude.{Bool, List, Option, [], length, option_map, ℕ, ◌++◌, ◌∷◌, ◌≡◌, ◌⊎◌}
-use Rattle.run_commands.specs.Runs.{Leaves, PlaysOut}
-use Rattle.run_commands.specs.declared.runs.Ran.{Ran}
+-- How a session at a keyboard ends, and what it leaves.
+use Rattle.std.specs.Prelude.{Bool, List, Option, [], length, ℕ, ◌++◌, ◌∷◌, ◌≡◌, ◌⊎◌}
+use Rattle.driver.specs.Sessions.{GaveFirst, session}
+use Rattle.driver.specs.declared.terminal.Given.{Given}
+use Rattle.driver.specs.declared.terminal.Given.TheVariants as given
+use Rattle.events.specs.Records.{Kept, Records}
 use Rattle.hosts.specs.declared.report.End.{End}
 use Rattle.hosts.specs.declared.report.End.TheVariants.{Halted, Running}
-use Rattle.live.specs.declared.terminal.Given.{Given}
-use Rattle.live.specs.declared.terminal.Given.TheVariants as given
-use Rattle.live.specs.Sessions.{GaveFirst, session}
 use Rattle.machine.specs.View.{View}
+use Rattle.run_commands.specs.Runs.{Leaves, PlaysOut}
+use Rattle.run_commands.specs.declared.sessions.Sat.{Sat}
 use Rattle.unixmodel.specs.declared.event.Event.{Event}
 
 -- these are all events of a session, or a beginning of them where it ended otherwise than at the keyboard
@@ -22,47 +23,34 @@ IsLeft gave Running = ((before : List Given) × (gave ≡ before ++ given.End �
 IsLeft gave (Halted why) = Unit {0}
 
 -- a machine was given the events of a session, and just these are recorded; with what is written out
-pub record SitsOut (quantum : ℕ) (gives later : Option (List Given)) (kept keeps : Option (List Event))
+pub record SitsOut (quantum : ℕ) (gives later : Option (List Given)) (kept keeps : Option Kept)
     (old new : View) (before after : Option (List ℕ)) (end : End) : Type 0 where
   pub gave : List Given
   pub first : GaveFirst gives gave later
   pub events : List Event
   pub follows : AreOf events (session quantum old.state gave) end
-  pub records : keeps ≡ option_map (λ es. es ++ events) kept
+  pub records : Records kept keeps events
   pub left : IsLeft gave end
   pub plays : PlaysOut old new events before after end
 
 -- the same, and what it leaves once it is saved
 pub record IsSat {D : Type 0} (content : D → List (List ℕ)) (identity : D → List ℕ) (count : D → ℕ) (quantum : ℕ)
-    (gives later : Option (List Given)) (kept keeps : Option (List Event)) (old : View)
+    (gives later : Option (List Given)) (kept keeps : Option Kept) (old : View)
     (before after : Option (List ℕ)) (saves : Bool) (end : End) (disk : Option D) : Type 0 where
   pub last : View
   pub ended : End
   pub sits : SitsOut quantum gives later kept keeps old last before after ended
   pub leaves : Leaves content identity count old sits.events before after saves end disk
 
--- a machine was given the events of a play, and just these are recorded; with what is written out
-pub record PlayedOut (kept keeps : Option (List Event)) (old new : View) (before after : Option (List ℕ)) (end : End)
-    : Type 0 where
-  pub events : List Event
-  pub records : keeps ≡ option_map (λ es. es ++ events) kept
-  pub plays : PlaysOut old new events before after end
+-- ---- the same, read off an output that has the bytes and a terminal that has the events
 
--- ---- the same, read off an output that has the bytes and a terminal or a keeper that has the events
+abbrev pub SitsOutTo : {W R : Type 0} → (W → Option (List ℕ)) → (R → Option (List Given)) → (R → Option Kept) → ℕ → R
+    → R → View → View → W → W → End → Type 0
+SitsOutTo contents gives kept quantum before after old new out left end =
+    SitsOut quantum (gives before) (gives after) (kept before) (kept after) old new (contents out) (contents left) end
 
-abbrev pub SitsOutTo : {W S : Type 0} → (W → Option (List ℕ)) → (S → Option (List Given)) → (S → Option (List Event))
-    → ℕ → S → S → View → View → W → End × W → Type 0
-SitsOutTo contents gives kept quantum before after old new out told =
-    SitsOut quantum (gives before) (gives after) (kept before) (kept after) old new (contents out) (contents told.1)
-    told.0
-
-abbrev pub SatTo : {D W S : Type 0} → (D → List (List ℕ)) → (D → List ℕ) → (D → ℕ) → (W → Option (List ℕ))
-    → (S → Option (List Given)) → (S → Option (List Event)) → ℕ → S → S → View → W → Bool → Ran D W → Type 0
-SatTo content identity count contents gives kept quantum before after old out saves ran =
-    IsSat content identity count quantum (gives before) (gives after) (kept before) (kept after) old (contents out)
-    (contents ran.stdout) saves ran.end ran.disk
-
-abbrev pub PlaysOutTo : {W R : Type 0} → (W → Option (List ℕ)) → (R → Option (List Event)) → R → R → View → View → W
-    → W → End → Type 0
-PlaysOutTo contents kept before after old new out left end =
-    PlayedOut (kept before) (kept after) old new (contents out) (contents left) end
+abbrev pub SatTo : {D R W : Type 0} → (D → List (List ℕ)) → (D → List ℕ) → (D → ℕ) → (W → Option (List ℕ))
+    → (R → Option (List Given)) → (R → Option Kept) → ℕ → R → View → W → Bool → Sat D R W → Type 0
+SatTo content identity count contents gives kept quantum before old out saves sat =
+    IsSat content identity count quantum (gives before) (gives sat.terminal) (kept before) (kept sat.terminal) old
+    (contents out) (contents sat.stdout) saves sat.end sat.disk

@@ -1,12 +1,16 @@
 //! Names for addresses of an image's programs.
-ghost use Rattle.std.specs.Prelude.{◌≡◌};
+ghost use Rattle.std.specs.Prelude.{IfOk, ◌≡◌};
+ghost use Rattle.std.specs.List.{All};
+ghost use Rattle.symbolizer.specs.Programs.{IsProgram};
 
 use hosts::{Failure, Front, Host, Why, disk_of};
 use std::alloc::{AllocError, Global};
 use symbolizer::{Program, ProgramsFault, Symbolizer, programs};
 
 /// The programs of an image, none where it is refused.
-pub fn programs_of<'a>(alloc: Global, image: &Front) -> Result<Vec<Program>, Failure<'a>> {
+pub fn programs_of<'a>(alloc: Global, image: &Front) -> Result<Vec<Program>, Failure<'a>>
+    ensures { IfOk result (λ programs. All IsProgram programs.items) }
+{
     let Ok(bytes) = Vec::from_slice(alloc, image.bytes.as_slice()) else {
         return Err(Failure::NoMemory);
     };

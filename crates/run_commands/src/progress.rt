@@ -2,9 +2,10 @@
 ghost use Rattle.std.specs.Prelude.{◌≡◌, is_some};
 
 use blockdev::BlockDev;
+use driver::{Detail, Watch};
 use hosts::Screen;
-use live::{Detail, Watch};
 use machine::{Halt, Machine};
+use std::alloc::Global;
 use std::cell::Cell;
 use std::io::Write;
 use std::{fmt, io};
@@ -85,7 +86,9 @@ pub struct Meter<S> {
 
 impl<S: Screen> Meter<S> {
     /// A run that begins.
-    pub fn new(screen: Option<S>) -> Self {
+    pub fn new(screen: Option<S>) -> Self
+        ensures { result.screen ≡ screen }
+    {
         let mut state = State {
             steps: 0,
             told: 0,
@@ -219,6 +222,13 @@ impl fmt::Display for Blank {
     }
 }
 
+/// What a command is done with besides its files: where its memory comes from, and what shows how far it is.
+#[derive(Clone, Copy)]
+pub struct Setting<'m, S> {
+    pub alloc: Global,
+    pub meter: &'m Meter<S>,
+}
+
 /// Watches a run, and has its meter show how far it is.
 #[derive(Clone, Copy)]
 pub struct Gauge<'a, S> {
@@ -289,7 +299,9 @@ pub struct Cleared<'a, 'b, W, S> {
 
 impl<'a, 'b, W: Write, S: Screen> Cleared<'a, 'b, W, S> {
     /// The output over another one; `is_prompt` says whether bytes are written out at once.
-    pub fn new(out: &'a mut W, meter: &'b Meter<S>, is_prompt: bool) -> Self {
+    pub fn new(out: &'a mut W, meter: &'b Meter<S>, is_prompt: bool) -> Self
+        ensures { result.is_prompt ≡ is_prompt }
+    {
         Cleared {
             out,
             meter,

@@ -1,27 +1,37 @@
 //! Runs whose events a script has, and what is printed of them.
+ghost use Rattle.std.specs.Prelude.{IsErr, ◌≡◌};
+ghost use Rattle.run_commands.specs.Tellings.{IsEndStatus};
 
+use crate::finish::Finish;
 use crate::naming::symbolizer_of;
-use crate::progress::{Gauge, Meter};
+use crate::performing::{Piece, Show, perform_watched};
+use crate::progress::{Gauge, Meter, Setting};
 use crate::runs;
-use crate::runs::{read_run, run_watched_over, script_of};
-use crate::telling::{Both, Crier, Teller, looks_on, outcome_of, status_of, tell_kept};
+use crate::runs::{read_run, script_of};
+use crate::telling::{Both, Crier, Ended, Teller, looks_on, outcome_of, status_of, tell_kept};
 use blockdev::MemDisk;
 use commandline::{Flat, Run, Telling};
-use hosts::{End, Failure, Host, Screen, disk_of, tell};
-use std::alloc::Global;
+use hosts::{Failure, Host, Screen, disk_of, tell};
 use std::io::Write;
 use symbolizer::Symbolizer;
 
 /// Prints how a run ended, after what else is to be printed of it, and then what was not written; returns the status to
 /// exit with.
-pub fn finish<'a, H: Host, E: Write>(
-    end: End,
-    written: Result<(), Failure<'a>>,
-    teller: Option<Teller>,
+pub fn end_script<'a, H: Host, E: Write>(
     telling: &Telling<'a>,
+    ended: Ended<'a>,
     host: &mut H,
     stderr: &mut E,
-) -> u8 {
+) -> u8
+    ensures failed { IsErr ended.entry.written → result ≡ 1 }
+    ensures status { IsEndStatus telling.now ended.entry.finish.end result }
+{
+    let Ended {
+        finish,
+        written,
+        teller,
+    } = ended;
+    let end = finish.end;
     let told = tell_kept(teller, outcome_of(end, None), telling.json, host, stderr);
     let _ = writeln!(stderr, "{end}");
     match written.and(told) {
@@ -32,15 +42,15 @@ pub fn finish<'a, H: Host, E: Write>(
 
 /// The command `flat`: boots a flat program, runs a script, and prints how that ended.
 pub fn flat<H: Host, S: Screen, W: Write, E: Write>(
-    alloc: Global,
+    setting: Setting<'_, S>,
     words: Flat<'_>,
     host: &mut H,
-    meter: &Meter<S>,
     stdout: &mut W,
     stderr: &mut E,
 ) -> u8 {
+    let Setting { alloc, meter } = setting;
     let telling = words.telling;
-    let mut gauge = Gauge { meter };
+    let gauge = Gauge { meter };
     let (ended, teller) = if looks_on(&telling) {
         let teller = Teller::new(alloc, words.file, &telling, Symbolizer::new(alloc));
         let mut both = Both {
@@ -50,70 +60,101 @@ pub fn flat<H: Host, S: Screen, W: Write, E: Write>(
         let ended = runs::flat_watched(alloc, words, host, &mut both, stdout);
         (ended, Some(both.first.into_teller()))
     } else {
-        (runs::flat(alloc, words, host, &mut gauge, stdout), None)
+        (runs::flat(alloc, words, host, gauge, stdout), None)
     };
     match ended {
-        Ok(end) => finish(end, Ok(()), teller, &telling, host, stderr),
+        Ok(end) => {
+            let finish = Finish { end, in_vain: None };
+            let ended = Ended {
+                finish,
+                written: Ok(()),
+                teller,
+            };
+            end_script(&telling, ended, host, stderr)
+        }
         Err(failure) => tell(&failure, stderr),
+    }
+}
+
+// What watches a run of which faults are printed as they come, and what shows how far it is.
+fn crier_and_gauge<'m, S: Screen, E: Write + Drop>(
+    teller: Teller,
+    meter: &'m Meter<S>,
+    stderr: E,
+) -> Both<Crier<'m, S, E>, Gauge<'m, S>>
+    ensures { result.first.teller ≡ teller }
+{
+    Both {
+        first: Crier::new(teller, meter, stderr),
+        second: Gauge { meter },
     }
 }
 
 // A run that is watched: how it ended, the disk that is left where it was to be saved, and what was noted.
 fn run_told<'a, H: Host, S: Screen, W: Write, E: Write>(
-    alloc: Global,
-    words: Run<'a>,
+    setting: Setting<'_, S>,
+    words: &Run<'a>,
     host: &mut H,
-    meter: &Meter<S>,
     stdout: &mut W,
     stderr: &mut E,
-) -> Result<(End, Option<MemDisk>, Option<Teller>), Failure<'a>> {
-    let telling = words.telling;
-    let (image, bytes) = read_run(host, &words)?;
+) -> Result<(Finish, Option<MemDisk>, Option<Teller>), Failure<'a>> {
+    let Setting { alloc, meter } = setting;
+    let (image, bytes) = read_run(host, words)?;
     let script = script_of(alloc, words.script, bytes.as_slice())?;
-    let symbolizer = symbolizer_of(alloc, &image, telling.symbols, host)?;
+    let symbolizer = symbolizer_of(alloc, &image, words.telling.symbols, host)?;
     let disk = disk_of(image)?;
-    let teller = Teller::new(alloc, "/init", &telling, symbolizer);
-    let mut both = Both {
-        first: Crier::new(teller, meter, stderr),
-        second: Gauge { meter },
+    let teller = Teller::new(alloc, "/init", &words.telling, symbolizer);
+    let mut both = crier_and_gauge(teller, meter, &mut *stderr);
+    let own_words = *words;
+    let show = Show {
+        alloc,
+        words: &own_words,
+        piece: Piece::Script(script.as_slice()),
     };
-    let (end, disk) = run_watched_over(alloc, words, disk, script.as_slice(), &mut both, stdout)?;
-    Ok((end, disk, Some(both.first.into_teller())))
+    let performed = perform_watched(disk, show, &mut both, &mut *stdout)?;
+    Ok((
+        performed.finish,
+        performed.disk,
+        Some(both.first.into_teller()),
+    ))
 }
 
 // A run of which nothing is noted.
 fn run_untold<'a, H: Host, S: Screen, W: Write>(
-    alloc: Global,
-    words: Run<'a>,
+    setting: Setting<'_, S>,
+    words: &Run<'a>,
     host: &mut H,
-    meter: &Meter<S>,
     stdout: &mut W,
-) -> Result<(End, Option<MemDisk>, Option<Teller>), Failure<'a>> {
-    let mut gauge = Gauge { meter };
-    let (end, disk) = runs::run(alloc, words, host, &mut gauge, stdout)?;
-    Ok((end, disk, None))
+) -> Result<(Finish, Option<MemDisk>, Option<Teller>), Failure<'a>> {
+    let Setting { alloc, meter } = setting;
+    let performed = runs::run(alloc, words, host, Gauge { meter }, stdout)?;
+    Ok((performed.finish, performed.disk, None))
 }
 
 /// The command `run`: boots a machine from an image, runs a script, and prints how that ended. The image that is left
 /// is written before.
 pub fn run<H: Host, S: Screen, W: Write, E: Write>(
-    alloc: Global,
+    setting: Setting<'_, S>,
     words: Run<'_>,
     host: &mut H,
-    meter: &Meter<S>,
     stdout: &mut W,
     stderr: &mut E,
 ) -> u8 {
     let telling = words.telling;
     let ran = if looks_on(&telling) {
-        run_told(alloc, words, host, meter, stdout, stderr)
+        run_told(setting, &words, host, stdout, stderr)
     } else {
-        run_untold(alloc, words, host, meter, stdout)
+        run_untold(setting, &words, host, stdout)
     };
     match ran {
-        Ok((end, disk, teller)) => {
-            let kept = runs::keep(words.save, disk, host);
-            finish(end, kept, teller, &telling, host, stderr)
+        Ok((finish, disk, teller)) => {
+            let written = runs::keep(words.save, disk, host);
+            let ended = Ended {
+                finish,
+                written,
+                teller,
+            };
+            end_script(&telling, ended, host, stderr)
         }
         Err(failure) => tell(&failure, stderr),
     }

@@ -1,18 +1,19 @@
 //! The terminal of a session: standard input is its keyboard, and a file has its record.
-ghost use Rattle.std.specs.Prelude.{◌≡◌, ◌≢◌, None, false, true};
+ghost use Rattle.std.specs.Prelude.{◌≡◌, ◌≢◌, None, false, refl, true};
 ghost use Rattle.run_commands.specs.declared.seat.Typed.TheVariants.{Key};
 
 use crate::progress::Meter;
 use arrayvec::ArrayVec;
 use blockdev::BlockDev;
 use commandline::Live;
+use driver::{Given, MOST_KEYS, Mood, Terminal};
+use events::{Record, Row};
 use hosts::{Failure, Host, Screen, Why, append};
 use line_editor::{Editor, Keys};
-use live::{Given, MOST_KEYS, Mood, Move, Terminal};
 use machine::{Machine, ProcessState, Seen};
-use std::alloc::{AllocError, Global};
-use std::fmt;
+use std::alloc::Global;
 use std::io::Write;
+use std::{fmt, mem};
 use sv39::Translate;
 
 /// Control-A: the key after it is for the session, as in QEMU.
@@ -23,6 +24,9 @@ const SHOW: u8 = 0x10;
 
 /// The key that ends a typed line.
 const LINE_END: u8 = b'\n';
+
+/// The most events of a line of the record.
+const MOST_EVENTS: u32 = 1_000_000_000;
 
 /// The most bytes of the record that wait to be written.
 const MOST_WAITING: usize = 4096;
@@ -69,8 +73,9 @@ pub struct Seat<'a, 'b, H, S, E> {
     is_terminal: bool,
     // The file that has the record, where one has.
     script: Option<&'a str>,
-    // The lines of the record that are not written yet.
+    // The lines of the record that are not written yet, and the one to which events still come.
     lines: String,
+    row: Row,
     // What was read and not given yet.
     typed: ArrayVec<u8, MOST_KEYS>,
     // Whether the last byte was an escape.
@@ -106,6 +111,7 @@ impl<'a, 'b, H: Host, S: Screen, E: Write> Seat<'a, 'b, H, S, E> {
             is_terminal: words.terminal,
             script: words.script,
             lines: String::new(alloc),
+            row: Row::Steps(0),
             typed: ArrayVec::new(),
             is_escaped: false,
             editor,
@@ -113,6 +119,41 @@ impl<'a, 'b, H: Host, S: Screen, E: Write> Seat<'a, 'b, H, S, E> {
             failure: None,
             unread: None,
         }
+    }
+
+    // Whether events are recorded.
+    fn is_kept(&self) -> bool {
+        self.script.is_some() && self.failure.is_none()
+    }
+
+    // Ends the line of the record, and begins another; the lines that wait are written where they are many.
+    fn begin(&mut self, row: Row) {
+        let full = mem::replace(&mut self.row, row);
+        if full.put_unless_empty(&mut self.lines).is_err() {
+            self.failure = Some(Failure::NoMemory);
+        }
+        if self.lines.len() > MOST_WAITING {
+            self.write_out();
+        }
+    }
+
+    // Ends the line of the record.
+    fn end_line(&mut self) {
+        if self.is_kept() {
+            self.begin(Row::Steps(0));
+        }
+    }
+
+    // Records a key.
+    fn record_key(&mut self, key: u8) {
+        let mut keys = ArrayVec::new();
+        if let Row::Keys(typed) = &mut self.row
+            && typed.try_push(key).is_ok()
+        {
+            return;
+        }
+        keys.push(key);
+        self.begin(Row::Keys(keys));
     }
 
     // Writes the lines of the record that wait.
@@ -133,6 +174,7 @@ impl<'a, 'b, H: Host, S: Screen, E: Write> Seat<'a, 'b, H, S, E> {
     /// read.
     pub fn finish(mut self) -> Result<(), Failure<'a>> {
         self.meter.clear();
+        self.end_line();
         self.write_out();
         match self.failure.or(self.unread) {
             None => Ok(()),
@@ -191,22 +233,6 @@ fn meaning(is_terminal: bool, is_escaped: bool, byte: u8) -> Typed
         (false, ESCAPE) => Typed::Escape,
         (false, SHOW) => Typed::Show,
         (false, _) => Typed::Key(byte),
-    }
-}
-
-/// Writes a line of a record.
-pub(crate) fn write_line(lines: &mut String, moved: Move<'_>) -> Result<(), AllocError> {
-    match moved {
-        Move::Steps(0) | Move::Keys(&[]) => Ok(()),
-        Move::Steps(count) => writeln!(lines, "step {count}"),
-        Move::Tick => writeln!(lines, "tick 1"),
-        Move::Keys(keys) => {
-            write!(lines, "keys ")?;
-            for key in keys {
-                write!(lines, "{key:02x}")?;
-            }
-            writeln!(lines)
-        }
     }
 }
 
@@ -320,12 +346,55 @@ impl<H: Host, S: Screen, E: Write> Seat<'_, '_, H, S, E> {
     }
 }
 
+impl<H: Host, S: Screen, E: Write> Record for Seat<'_, '_, H, S, E> {
+    ghost kept = { λ seat. None };
+
+    ghost Rest = { Unit {0} };
+
+    ghost rest = { λ seat. tt };
+
+    fn steps(&mut self, count: u32) {
+        self.meter.count(count);
+        if !self.is_kept() {
+            return;
+        }
+        match self.row {
+            Row::Steps(steps) if count <= MOST_EVENTS.saturating_sub(steps) => {
+                self.row = Row::Steps(steps + count);
+            }
+            _ => self.begin(Row::Steps(count)),
+        }
+    }
+
+    fn ticks(&mut self, count: u32) {
+        if !self.is_kept() {
+            return;
+        }
+        match self.row {
+            Row::Ticks(ticks) if count <= MOST_EVENTS.saturating_sub(ticks) => {
+                self.row = Row::Ticks(ticks + count);
+            }
+            _ => self.begin(Row::Ticks(count)),
+        }
+    }
+
+    fn keys(&mut self, keys: &[u8]) {
+        if !self.is_kept() {
+            return;
+        }
+        for key in keys {
+            self.record_key(*key);
+        }
+    }
+}
+
 impl<H: Host, S: Screen, E: Write> Terminal for Seat<'_, '_, H, S, E> {
     ghost gives = { λ seat. None };
 
-    ghost kept = { λ seat. None };
+    ghost is_beside = { λ a b same. refl };
 
     fn ask(&mut self, mood: Mood) -> Given {
+        self.end_line();
         match mood {
             Mood::Busy => self.meter.show(0),
             Mood::Asleep | Mood::Idle => self.meter.pause(),
@@ -341,21 +410,6 @@ impl<H: Host, S: Screen, E: Write> Terminal for Seat<'_, '_, H, S, E> {
             }
         }
         self.next_given()
-    }
-
-    fn note(&mut self, moved: Move<'_>) {
-        if let Move::Steps(count) = moved {
-            self.meter.count(count);
-        }
-        if self.script.is_none() || self.failure.is_some() {
-            return;
-        }
-        if write_line(&mut self.lines, moved).is_err() {
-            self.failure = Some(Failure::NoMemory);
-        }
-        if self.lines.len() > MOST_WAITING {
-            self.write_out();
-        }
     }
 
     fn show<D: BlockDev, T: Translate>(&mut self, machine: &Machine<D, T>) {

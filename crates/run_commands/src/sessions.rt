@@ -1,23 +1,20 @@
 //! A session at the keyboard.
-ghost use Rattle.std.specs.Prelude.{◌≡◌, ◌≢◌, IfOk};
-ghost use Rattle.calls.specs.declared.halt.Halt.TheVariants.{Console};
-ghost use Rattle.hosts.specs.Reports.{end_of};
+ghost use Rattle.std.specs.Prelude.{IfOk};
 ghost use Rattle.run_commands.specs.Seats.{SatTo, SitsOutTo};
-ghost use Rattle.hosts.specs.declared.report.End.TheVariants.{Halted};
 ghost use Rattle.machine.specs.View.{IsUp};
 
+use crate::finish::end_with;
 use crate::naming::symbolizer_of;
-use crate::progress::Meter;
-use crate::runs::{Ran, end_of, keep, leave};
+use crate::performing::{Driven, leave};
+use crate::progress::Setting;
+use crate::runs::keep;
 use crate::seat::Seat;
 use crate::telling::Crier;
 use blockdev::{BlockDev, MemDisk};
 use commandline::Live;
-use console::Writer;
+use driver::{Driver, Terminal, Watch};
 use hosts::{End, Failure, Front, Host, Screen, disk_of, read_image, tell, write};
-use live::session::session;
-use live::{Terminal, Watch};
-use machine::{Halt, Machine, boot};
+use machine::{Machine, boot};
 use std::alloc::Global;
 use std::io::Write;
 use sv39::{Tlb, Translate};
@@ -29,6 +26,23 @@ const QUANTUM: u32 = 10_000;
 /// The most steps of a line of a script.
 const MOST_STEPS: u32 = 1_000_000_000;
 
+/// What is left of a session: how it ended, the disk where it is saved, its terminal, and the output that has the
+/// console's bytes.
+#[derive(Drop)]
+pub struct Sat<D, R, W> {
+    pub end: End,
+    pub disk: Option<D>,
+    pub terminal: R,
+    pub stdout: W,
+}
+
+// How a session is held: how many steps there are between two ticks, and whether the machine is saved at the end.
+#[derive(Clone, Copy)]
+struct Sitting {
+    quantum: u32,
+    saves: bool,
+}
+
 // How many steps there are between two ticks.
 fn quantum_of(words: &Live<'_>) -> u32 {
     match words.quantum {
@@ -39,50 +53,56 @@ fn quantum_of(words: &Live<'_>) -> u32 {
     }
 }
 
-/// How a session ended: where an output has failed it was the console.
-pub fn end_with(ended: Result<(), Halt>, failures: u64, is_written: bool) -> End
-    ensures sound { failures ≡ 0 → result ≡ end_of ended is_written }
-    ensures fault { failures ≢ 0 → result ≡ Halted Console }
-{
-    end_of(ended, is_written && failures == 0)
-}
-
 // A session at a terminal, whose bytes for the console are written out.
-fn sit_out<D: BlockDev, T: Translate, S: Terminal, V: Watch, W: Write>(
-    machine: &mut Machine<D, T>,
+fn sit_out<D: BlockDev, T: Translate, R: Terminal, V: Watch + Drop, W: Write>(
+    machine: Machine<D, T>,
     quantum: u32,
-    terminal: &mut S,
-    watch: &mut V,
+    terminal: R,
+    watch: V,
     stdout: W,
-) -> (End, W)
-    requires { IsUp machine.old }
-    ensures { SitsOutTo W.contents S.gives S.kept quantum terminal.old terminal.new machine.old machine.new stdout
-        result }
+) -> Driven<D, T, R, W>
+    requires { IsUp machine }
+    ensures { SitsOutTo W.contents R.gives R.kept quantum terminal result.keeper machine result.machine stdout
+        result.stdout result.end }
 {
-    let mut out = Writer::new(stdout);
-    let ended = session(machine, quantum, terminal, watch, &mut out);
-    let failures = out.failures();
-    let mut stdout = out.into_inner();
+    let mut driver = Driver::new(machine, terminal, watch, stdout);
+    let ended = driver.sit(quantum);
+    let (machine, keeper, _watch, out) = driver.into_parts();
+    let (mut stdout, failures) = out.into_parts();
     let is_written = stdout.flush().is_ok();
-    (end_with(ended, failures, is_written), stdout)
+    Driven {
+        machine,
+        keeper,
+        stdout,
+        end: end_with(ended, failures, is_written),
+    }
 }
 
 // A session at a terminal; then the machine is saved, if it is to be and neither its device nor the console has failed.
-fn sit<D: BlockDev, T: Translate, S: Terminal, V: Watch, W: Write>(
-    mut machine: Machine<D, T>,
-    quantum: u32,
-    terminal: &mut S,
-    watch: &mut V,
-    saves: bool,
+fn sit<D: BlockDev, T: Translate, R: Terminal, V: Watch + Drop, W: Write>(
+    machine: Machine<D, T>,
+    sitting: Sitting,
+    terminal: R,
+    watch: V,
     stdout: W,
-) -> Ran<D, W>
+) -> Sat<D, R, W>
     requires { IsUp machine }
-    ensures { SatTo D.content D.identity D.failures W.contents S.gives S.kept quantum terminal.old
-        terminal.new machine stdout saves result }
+    ensures { SatTo D.content D.identity D.failures W.contents R.gives R.kept sitting.quantum terminal machine stdout
+        sitting.saves result }
 {
-    let (end, stdout) = sit_out(&mut machine, quantum, terminal, watch, stdout);
-    let (end, disk) = leave(machine, saves, end);
-    Ran { end, disk, stdout }
+    let Driven {
+        machine,
+        keeper,
+        stdout,
+        end,
+    } = sit_out(machine, sitting.quantum, terminal, watch, stdout);
+    let (end, disk) = leave(machine, sitting.saves, end);
+    Sat {
+        end,
+        disk,
+        terminal: keeper,
+        stdout,
+    }
 }
 
 // Boots the machine of an image.
@@ -110,13 +130,13 @@ fn begin_record<'a, H: Host>(script: Option<&'a str>, host: &mut H) -> Result<()
 
 // A session, to its end: how it ended, and whether all files were written.
 fn live<'a, H: Host, S: Screen, W: Write, E: Write>(
-    alloc: Global,
+    setting: Setting<'_, S>,
     words: &Live<'a>,
     host: &mut H,
-    meter: &Meter<S>,
     stdout: &mut W,
     stderr: &mut E,
 ) -> Result<(End, Result<(), Failure<'a>>), Failure<'a>> {
+    let Setting { alloc, meter } = setting;
     let image = read_image(host, words.image)?;
     let symbolizer = if meter.has_screen() {
         symbolizer_of(alloc, &image, words.symbols, host)?
@@ -125,20 +145,21 @@ fn live<'a, H: Host, S: Screen, W: Write, E: Write>(
     };
     let machine = boot_image(alloc, words, image)?;
     begin_record(words.script, host)?;
-    let mut seat = Seat::new(alloc, host, meter, stderr, words);
-    let mut crier = Crier::on_screen(alloc, meter, symbolizer);
-    let saves = words.save.is_some();
-    let ran = sit(
-        machine,
-        quantum_of(words),
-        &mut seat,
-        &mut crier,
-        saves,
-        stdout,
-    );
-    let recorded = seat.finish();
-    let saved = keep(words.save, ran.disk, host);
-    Ok((ran.end, recorded.and(saved)))
+    let seat = Seat::new(alloc, host, meter, stderr, words);
+    let crier = Crier::on_screen(alloc, meter, symbolizer);
+    let sitting = Sitting {
+        quantum: quantum_of(words),
+        saves: words.save.is_some(),
+    };
+    let Sat {
+        end,
+        disk,
+        terminal,
+        ..
+    } = sit(machine, sitting, seat, crier, stdout);
+    let recorded = terminal.finish();
+    let saved = keep(words.save, disk, host);
+    Ok((end, recorded.and(saved)))
 }
 
 // Prints how a session ended, after the command that replays it, where there is a record and nothing failed.
@@ -156,14 +177,13 @@ fn tell_end<E: Write>(words: &Live<'_>, end: End, is_whole: bool, stderr: &mut E
 /// Boots a machine from an image, gives it what is typed, and prints how that ended. The image that is left is written
 /// before.
 pub fn perform<H: Host, S: Screen, W: Write, E: Write>(
-    alloc: Global,
+    setting: Setting<'_, S>,
     words: Live<'_>,
     host: &mut H,
-    meter: &Meter<S>,
     stdout: &mut W,
     stderr: &mut E,
 ) -> u8 {
-    match live(alloc, &words, host, meter, stdout, stderr) {
+    match live(setting, &words, host, stdout, stderr) {
         Ok((end, written)) => {
             tell_end(&words, end, written.is_ok(), stderr);
             match written {

@@ -1,11 +1,13 @@
 //! What is reported of a run besides the console's bytes and how it ended.
-ghost use Rattle.std.specs.Prelude.{◌≡◌};
+ghost use Rattle.std.specs.Prelude.{None, option_map, ◌≡◌};
+ghost use Rattle.run_commands.specs.Tellings.{exit_status, is_told, named_pid, wanted_by};
 
+use crate::finish::Finish;
 use crate::progress::{Aside, Meter};
 use blockdev::BlockDev;
 use commandline::Telling;
+use driver::{Detail, Watch};
 use hosts::{End, Failure, Host, Screen, write};
-use live::{Detail, Watch};
 use machine::{Halt, Machine};
 use reports::{Fallen, FaultLine, Looked, Outcome, PlayEnd, Reporter, Told, Wanted};
 use std::alloc::{AllocError, Global};
@@ -24,7 +26,9 @@ pub struct Teller {
 }
 
 /// The process that a number of the command line names; there is no process with a longer one.
-pub fn pid_of(number: Option<NonZeroU64>) -> Option<u32> {
+pub fn pid_of(number: Option<NonZeroU64>) -> Option<u32>
+    ensures { result ≡ option_map named_pid number }
+{
     match number {
         Some(number) => Some(u32::try_from(number.get()).unwrap_or(u32::MAX)),
         None => None,
@@ -33,12 +37,11 @@ pub fn pid_of(number: Option<NonZeroU64>) -> Option<u32> {
 
 impl Teller {
     /// Watches a run whose first program has this name. Addresses have the names of a symbolizer.
-    pub fn new(
-        alloc: Global,
-        first: &str,
-        telling: &Telling<'_>,
-        symbolizer: Symbolizer,
-    ) -> Teller {
+    pub fn new(alloc: Global, first: &str, telling: &Telling<'_>, symbolizer: Symbolizer) -> Teller
+        ensures wanted { result.reporter.wanted ≡ wanted_by telling.now }
+        ensures names { result.reporter.symbolizer ≡ symbolizer }
+        ensures looked { result.looked ≡ None }
+    {
         let wanted = Wanted {
             report: telling.report,
             json: telling.json.is_some(),
@@ -50,7 +53,11 @@ impl Teller {
     }
 
     // Watches for what is wanted.
-    fn of(alloc: Global, first: &str, wanted: Wanted, symbolizer: Symbolizer) -> Teller {
+    fn of(alloc: Global, first: &str, wanted: Wanted, symbolizer: Symbolizer) -> Teller
+        ensures wanted { result.reporter.wanted ≡ wanted }
+        ensures names { result.reporter.symbolizer ≡ symbolizer }
+        ensures looked { result.looked ≡ None }
+    {
         Teller {
             alloc,
             reporter: Reporter::new(alloc, first.as_bytes(), wanted, symbolizer),
@@ -241,8 +248,63 @@ impl<A: Watch, B: Watch> Watch for Both<A, B> {
     }
 }
 
+/// A watcher that is lent to a run.
+#[derive(Drop)]
+pub(crate) struct Lent<'a, V> {
+    pub watch: &'a mut V,
+}
+
+impl<V: Watch> Watch for Lent<'_, V> {
+    #[inline]
+    fn detail(&self) -> Detail {
+        self.watch.detail()
+    }
+
+    #[inline]
+    fn before<D: BlockDev, T: Translate>(&mut self, machine: &Machine<D, T>, event: Event) {
+        self.watch.before(machine, event);
+    }
+
+    #[inline]
+    fn after<D: BlockDev, T: Translate>(
+        &mut self,
+        machine: &Machine<D, T>,
+        event: Event,
+        ended: Result<(), Halt>,
+    ) {
+        self.watch.after(machine, event, ended);
+    }
+
+    #[inline]
+    fn passed<D: BlockDev, T: Translate>(&mut self, machine: &Machine<D, T>, steps: u32) {
+        self.watch.passed(machine, steps);
+    }
+
+    fn written_out(&mut self, event: Event, made: u32) {
+        self.watch.written_out(event, made);
+    }
+
+    fn repeated(&mut self, event: Event, times: u32) {
+        self.watch.repeated(event, times);
+    }
+
+    fn end<D: BlockDev, T: Translate>(&mut self, machine: &Machine<D, T>) {
+        self.watch.end(machine);
+    }
+}
+
+/// A run that ended: how, whether all files were written, and what is to be said of it besides.
+#[derive(Drop)]
+pub struct Ended<'a> {
+    pub finish: Finish,
+    pub written: Result<(), Failure<'a>>,
+    pub teller: Option<Teller>,
+}
+
 /// Whether anything is to be reported for which a run has to be watched.
-pub fn looks_on(telling: &Telling<'_>) -> bool {
+pub fn looks_on(telling: &Telling<'_>) -> bool
+    ensures { result ≡ is_told telling.now }
+{
     telling.report
         || telling.json.is_some()
         || telling.registers.is_some()
@@ -284,7 +346,9 @@ pub(crate) fn tell_kept<'a, H: Host, E: Write>(
 }
 
 /// The status to exit with. Where process 1's is wanted it is its low 8 bits, and 1 where it has not ended.
-pub(crate) fn status_of(telling: &Telling<'_>, end: End) -> u8 {
+pub(crate) fn status_of(telling: &Telling<'_>, end: End) -> u8
+    ensures { result ≡ exit_status telling.now end }
+{
     match end {
         _ if !telling.status => end.status(),
         End::Halted(Halt::InitEnded(status)) => (status.cast_unsigned() % 0x100) as u8,

@@ -1,15 +1,18 @@
 //! Stored runs of small programs: the exact text, the shape of the spans, and lines of the commit log.
+ghost use Rattle.std.specs.Prelude.{IfSome};
+ghost use Rattle.machine.specs.View.{IsUp};
 
-use crate::disks::{Given, Whole, expect_row, image_with, run_on};
+use crate::disks::{Given, expect_row, image_with};
 use crate::samples::{CAT, ECHO, FAULTS, FORKS, GROWS, SHELL, SLEEPER};
 use crate::shape::is_well_shaped;
-use live::Watch;
-use live::play::advance_seen;
+use blockdev::MemDisk;
+use driver::Driver;
+use events::{Command, Unrecorded};
+use machine::{Machine, boot};
 use std::alloc::Global;
 use sv39::Plain;
 use symbolizer::Symbolizer;
 use traces::{CallSet, Form, SinkFault, Sinks, Tracer, Trouble, Wanted};
-use unixmodel::event::Event;
 
 // A sink for each form, of which the text may fail.
 #[derive(Drop)]
@@ -54,14 +57,6 @@ impl Sinks for Pages {
     }
 }
 
-// Gives a machine an event, and returns whether it goes on.
-fn give(run: &mut Whole, tracer: &mut Tracer<Pages>, event: Event) -> bool {
-    tracer.before(&run.machine, event);
-    let ended = run.event(event);
-    tracer.after(&run.machine, event, ended);
-    ended.is_ok()
-}
-
 /// Which steps of a run a tracer is shown.
 #[derive(Clone, Copy, PartialEq, Eq)]
 enum Shown {
@@ -74,40 +69,21 @@ enum Shown {
 /// How many steps there are before each tick.
 const ROUND: u32 = 300;
 
-// The first of that many steps, one or as many as are done in one go: how many they are. `None`: the machine halts.
-fn advance(run: &mut Whole, tracer: &mut Tracer<Pages>, shown: Shown, most: u32) -> Option<u32> {
-    match shown {
-        Shown::Each => give(run, tracer, Event::Step).then_some(1),
-        Shown::Calls if most > 0 => {
-            let (made, ended) = advance_seen(&mut run.machine, most, tracer, &mut run.out);
-            ended.is_ok().then_some(made)
-        }
-        Shown::Calls => None,
-    }
-}
-
-// Steps up to the next tick; whether the machine goes on.
-fn play_round(run: &mut Whole, tracer: &mut Tracer<Pages>, shown: Shown) -> bool {
-    let mut left = ROUND;
-    for _piece in 0..ROUND {
-        if left == 0 {
-            break;
-        }
-        let Some(made) = advance(run, tracer, shown, left) else {
-            return false;
-        };
-        left = left.saturating_sub(made);
-    }
-    true
-}
-
-// Three rounds of steps and a tick, up to the end of process 1.
-fn play(run: &mut Whole, tracer: &mut Tracer<Pages>, shown: Shown) {
-    for _round in 0..3 {
-        if !play_round(run, tracer, shown) || !give(run, tracer, Event::Tick) {
-            break;
-        }
-    }
+// Three rounds of steps and a tick, up to the end of process 1. Returns who looked on.
+fn play(alloc: Global, machine: Machine<MemDisk, Plain>, tracer: Tracer<Pages>) -> Tracer<Pages>
+    requires { IsUp machine }
+{
+    let mut driver = Driver::new(machine, Unrecorded, tracer, Vec::new(alloc));
+    let _ = driver.run(&[
+        Command::Step(ROUND),
+        Command::Tick(1),
+        Command::Step(ROUND),
+        Command::Tick(1),
+        Command::Step(ROUND),
+        Command::Tick(1),
+    ]);
+    let (_, _, tracer, _) = driver.into_parts();
+    tracer
 }
 
 /// What of a run is wanted.
@@ -425,23 +401,22 @@ fn wanted_of(case: &Case, shown: Shown) -> Option<Wanted> {
 }
 
 // The machine of a run's programs.
-fn booted(alloc: Global, case: &Case) -> Option<Whole> {
+fn booted(alloc: Global, case: &Case) -> Option<Machine<MemDisk, Plain>>
+    ensures { IfSome result IsUp }
+{
     let image = image_with(alloc, case.files, 64)?;
-    run_on(alloc, image, Plain::new(), 256)
+    let disk = MemDisk::new(image).ok()?;
+    match boot(alloc, disk, Plain::new(), 256) {
+        Ok(machine) => Some(machine),
+        Err(_) => None,
+    }
 }
 
-// What is written of a run, and whether it is the whole.
-fn traced(
-    alloc: Global,
-    run: &mut Whole,
-    case: &Case,
-    shown: Shown,
-) -> Option<(Pages, Result<(), Trouble>)> {
+// A tracer of what is wanted of a run.
+fn tracer_of(alloc: Global, case: &Case, shown: Shown) -> Option<Tracer<Pages>> {
     let wanted = wanted_of(case, shown)?;
     let pages = Pages::new(alloc, case.is_text_full);
-    let mut tracer = Tracer::new(alloc, wanted, Symbolizer::new(alloc), pages).ok()?;
-    play(run, &mut tracer, shown);
-    Some(tracer.finish())
+    Tracer::new(alloc, wanted, Symbolizer::new(alloc), pages).ok()
 }
 
 // Whether a log of commits has the case's lines.
@@ -491,12 +466,11 @@ fn are_same(one: &Pages, other: &Pages) -> bool {
     one.text == other.text && one.spans == other.spans && one.events == other.events
 }
 
-// What is written of a run that is shown so, from its boot to its end.
+// What is written of a run that is shown so, from its boot to its end, and whether it is the whole.
 fn pages_of(alloc: Global, case: &Case, shown: Shown) -> Option<(Pages, Result<(), Trouble>)> {
-    let mut run = booted(alloc, case)?;
-    let traced = traced(alloc, &mut run, case, shown);
-    run.end();
-    traced
+    let tracer = tracer_of(alloc, case, shown)?;
+    let machine = booted(alloc, case)?;
+    Some(play(alloc, machine, tracer).finish())
 }
 
 // Whether what is written of a run is as the case says, and the same where calls alone are shown.

@@ -3,11 +3,9 @@ ghost use Rattle.machine.specs.View.{IsUp};
 
 use anyhow::{Context, bail};
 use blockdev::{BlockDev, MemDisk};
-use console::Writer;
-use live::Nobody;
-use live::play::play;
+use driver::{Driver, Nobody};
+use events::{Command, TextFault, Unrecorded, parse};
 use machine::{Halt, Machine, boot};
-use scripts::{Command, TextFault, parse};
 use std::alloc::{AllocError, Global};
 use sv39::Translate;
 use unixmodel::event::Event;
@@ -108,32 +106,35 @@ pub fn disk_of(alloc: Global, bytes: &[u8]) -> anyhow::Result<MemDisk> {
     Ok(MemDisk::new(Vec::from_slice(alloc, bytes)?)?)
 }
 
-// Does what the commands say, and returns how it ended and what the console shows.
+// Does what the commands say, and returns how that ended, the machine, and what its console shows.
 fn run<D: BlockDev, T: Translate>(
     alloc: Global,
-    machine: &mut Machine<D, T>,
+    machine: Machine<D, T>,
     commands: &[Command<'_>],
-) -> anyhow::Result<(Option<i32>, Vec<u8>)>
-    requires { IsUp machine.old }
+) -> (Result<(), Halt>, Machine<D, T>, Vec<u8>)
+    requires { IsUp machine }
 {
-    let mut out = Writer::new(Vec::new(alloc));
-    let ended = match play(machine, commands, &mut Nobody, &mut out) {
-        Ok(()) => None,
-        Err(Halt::InitEnded(status)) => Some(status),
-        Err(_) => bail!("the machine failed"),
-    };
-    Ok((ended, out.into_inner()))
+    let mut driver = Driver::new(machine, Unrecorded, Nobody, Vec::new(alloc));
+    let ended = driver.run(commands);
+    let (machine, _, _, out) = driver.into_parts();
+    let (console, _) = out.into_parts();
+    (ended, machine, console)
 }
 
 // Does what the commands say, and saves the machine.
 fn play_booted<D: BlockDev, T: Translate>(
     alloc: Global,
-    mut machine: Machine<D, T>,
+    machine: Machine<D, T>,
     commands: &[Command<'_>],
 ) -> anyhow::Result<(Shown, D)>
     requires { IsUp machine }
 {
-    let (ended, console) = run(alloc, &mut machine, commands)?;
+    let (halted, machine, console) = run(alloc, machine, commands);
+    let ended = match halted {
+        Ok(()) => None,
+        Err(Halt::InitEnded(status)) => Some(status),
+        Err(_) => bail!("the machine failed"),
+    };
     let shown = Shown {
         console,
         ended,

@@ -1,15 +1,14 @@
 //! Runs that show what each process does.
 
 use blockdev::MemDisk;
-use commandline::{Run, Telling, Trace};
-use hosts::{End, Failure, Front, Host, Screen, append, disk_of, tell, write};
-use live::Watch;
-use playtext::{Play, parse};
+use commandline::{Telling, Trace};
+use driver::Watch;
+use events::parse_play;
+use hosts::{Failure, Front, Host, Screen, append, disk_of, tell, write};
 use run_commands::{
-    Both, Gauge, Meter, Teller, keep, looks_on, pid_of, plays, read_run, run_watched_over,
-    script_of, scripted, symbolizer_of,
+    Both, Ended, Finish, Gauge, Performed, Piece, Setting, Show, Teller, keep, looks_on,
+    perform_watched, pid_of, plays, read_run, script_of, scripted, symbolizer_of,
 };
-use scripts::Command;
 use std::alloc::Global;
 use std::io::Write;
 use std::num::NonZeroU64;
@@ -197,90 +196,43 @@ fn whole<'a>(
     }
 }
 
-// What gives a machine its events.
-trait Source {
-    // Gives them to the machine of a disk: how that ended, and the disk that is left where it was to be saved.
-    fn run<'a, V: Watch, W: Write>(
-        &self,
-        alloc: Global,
-        words: Run<'a>,
-        disk: MemDisk,
-        watch: &mut V,
-        stdout: &mut W,
-    ) -> Result<(Finish, Option<MemDisk>), Failure<'a>>;
-}
-
-// A script that is read.
+// A trace of a piece that was read, with the words that name its files and the front of its image.
 #[derive(Drop)]
-struct Script<'a> {
-    commands: Vec<Command<'a>>,
+struct Reading<'s, 'a, 'w> {
+    words: &'s Trace<'w>,
+    piece: Piece<'s, 'a>,
+    image: Front,
 }
 
-impl Source for Script<'_> {
-    fn run<'a, V: Watch, W: Write>(
-        &self,
-        alloc: Global,
-        words: Run<'a>,
-        disk: MemDisk,
-        watch: &mut V,
-        stdout: &mut W,
-    ) -> Result<(Finish, Option<MemDisk>), Failure<'a>> {
-        let commands = self.commands.as_slice();
-        let (end, disk) = run_watched_over(alloc, words, disk, commands, watch, stdout)?;
-        Ok((Finish::Script(end), disk))
-    }
-}
-
-impl Source for Play<'_> {
-    fn run<'a, V: Watch, W: Write>(
-        &self,
-        alloc: Global,
-        words: Run<'a>,
-        disk: MemDisk,
-        watch: &mut V,
-        stdout: &mut W,
-    ) -> Result<(Finish, Option<MemDisk>), Failure<'a>> {
-        let (end, disk) = plays::play_watched(alloc, &words, disk, self, watch, stdout)?;
-        Ok((Finish::Play(end), disk))
-    }
-}
-
-// How the events of a source ended.
+// How a run ended that was traced, what it left, and what watched it.
 #[derive(Drop)]
-enum Finish {
-    Script(End),
-    Play(plays::Finish),
-}
-
-// What is left of a run: how it ended, whether all files were written, and what is to be printed of it.
-#[derive(Drop)]
-struct Traced<'a> {
+struct Traced<T> {
     finish: Finish,
-    written: Result<(), Failure<'a>>,
-    teller: Teller,
-}
-
-// Gives a machine the events of a source, which a tracer, a teller and a gauge watch.
-fn run_traced<'a, Z: Source, T: Watch + Drop, S: Screen, W: Write>(
-    alloc: Global,
-    run: Run<'a>,
-    disk: MemDisk,
-    source: &Z,
+    disk: Option<MemDisk>,
     tracer: T,
     teller: Teller,
-    meter: &Meter<S>,
+}
+
+// Performs a piece, which a tracer, a teller and a gauge watch.
+fn run_traced<'w, T: Watch + Drop, S: Screen, W: Write>(
+    disk: MemDisk,
+    show: Show<'_, '_, 'w>,
+    tracer: T,
+    both: Both<Teller, Gauge<'_, S>>,
     stdout: &mut W,
-) -> Result<(Finish, Option<MemDisk>, T, Teller), Failure<'a>> {
+) -> Result<Traced<T>, Failure<'w>> {
     let mut all = Both {
         first: tracer,
-        second: Both {
-            first: teller,
-            second: Gauge { meter },
-        },
+        second: both,
     };
-    let (finish, disk) = source.run(alloc, run, disk, &mut all, stdout)?;
+    let Performed { finish, disk, .. } = perform_watched(disk, show, &mut all, stdout)?;
     let Both { first, second } = all;
-    Ok((finish, disk, first, second.first))
+    Ok(Traced {
+        finish,
+        disk,
+        tracer: first,
+        teller: second.first,
+    })
 }
 
 // The names for addresses in the report of a run, if there is to be one.
@@ -298,17 +250,17 @@ fn names_told<'a, H: Host>(
 }
 
 // A run from an image, to its end.
-fn trace<'a, Z: Source, H: Host, S: Screen, W: Write, E: Write>(
-    alloc: Global,
-    words: &Trace<'a>,
-    image: Front,
-    source: &Z,
+fn trace<'w, H: Host, S: Screen, W: Write, E: Write>(
+    setting: Setting<'_, S>,
+    reading: Reading<'_, '_, 'w>,
     host: &mut H,
-    meter: &Meter<S>,
     stdout: &mut W,
     stderr: &mut E,
-) -> Result<Traced<'a>, Failure<'a>> {
-    let telling = &words.run.telling;
+) -> Result<Ended<'w>, Failure<'w>> {
+    let Setting { alloc, meter } = setting;
+    let piece = reading.piece;
+    let Reading { words, image, .. } = reading;
+    let (run, telling) = (&words.run, &words.run.telling);
     let wanted = wanted_of(words)?;
     let symbolizer = symbolizer_of(alloc, &image, telling.symbols, host)?;
     let told = names_told(alloc, telling, &image, host)?;
@@ -317,64 +269,53 @@ fn trace<'a, Z: Source, H: Host, S: Screen, W: Write, E: Write>(
     let Ok(tracer) = Tracer::new(alloc, wanted, symbolizer, sheets) else {
         return Err(Failure::NoMemory);
     };
-    let teller = Teller::new(alloc, "/init", telling, told);
-    let (finish, disk, tracer, teller) = run_traced(
-        alloc, words.run, disk, source, tracer, teller, meter, stdout,
-    )?;
-    let (sheets, traced) = tracer.finish();
-    let written = whole(traced, sheets.finish());
-    let saved = keep(words.run.save, disk, host);
-    Ok(Traced {
+    let both = Both {
+        first: Teller::new(alloc, "/init", telling, told),
+        second: Gauge { meter },
+    };
+    let show = Show {
+        alloc,
+        words: run,
+        piece,
+    };
+    let Traced {
+        finish,
+        disk,
+        tracer,
+        teller,
+    } = run_traced(disk, show, tracer, both, stdout)?;
+    let (sheets, noted) = tracer.finish();
+    let written = whole(noted, sheets.finish());
+    let saved = keep(run.save, disk, host);
+    Ok(Ended {
         finish,
         written: written.and(saved),
-        teller,
+        teller: Some(teller),
     })
 }
 
-// Prints how a run ended, and returns the status to exit with.
-fn print<'a, H: Host, E: Write>(
-    words: &Trace<'a>,
-    traced: Traced<'a>,
+// A run that a piece has the events of.
+fn perform_read<H: Host, S: Screen, W: Write, E: Write>(
+    setting: Setting<'_, S>,
+    reading: Reading<'_, '_, '_>,
     host: &mut H,
-    stderr: &mut E,
-) -> u8 {
-    let Traced {
-        finish,
-        written,
-        teller,
-    } = traced;
-    let run = &words.run;
-    match finish {
-        Finish::Script(end) => {
-            scripted::finish(end, written, Some(teller), &run.telling, host, stderr)
-        }
-        Finish::Play(end) => plays::end_play(run, end, written, Some(teller), host, stderr),
-    }
-}
-
-// A run that a source has the events of.
-fn perform_source<Z: Source, H: Host, S: Screen, W: Write, E: Write>(
-    alloc: Global,
-    words: &Trace<'_>,
-    image: Front,
-    source: &Z,
-    host: &mut H,
-    meter: &Meter<S>,
     stdout: &mut W,
     stderr: &mut E,
 ) -> u8 {
-    match trace(alloc, words, image, source, host, meter, stdout, stderr) {
-        Ok(traced) => print(words, traced, host, stderr),
-        Err(failure) => tell(&failure, stderr),
+    let (words, piece) = (reading.words, reading.piece);
+    let run = &words.run;
+    match (trace(setting, reading, host, stdout, stderr), piece) {
+        (Ok(ended), Piece::Script(_)) => scripted::end_script(&run.telling, ended, host, stderr),
+        (Ok(ended), Piece::Play(_)) => plays::end_play(run, ended, host, stderr),
+        (Err(failure), _) => tell(&failure, stderr),
     }
 }
 
 // A run that a script has the events of.
 fn perform_script<H: Host, S: Screen, W: Write, E: Write>(
-    alloc: Global,
-    words: &Trace<'_>,
+    setting: Setting<'_, S>,
+    words: Trace<'_>,
     host: &mut H,
-    meter: &Meter<S>,
     stdout: &mut W,
     stderr: &mut E,
 ) -> u8 {
@@ -382,41 +323,47 @@ fn perform_script<H: Host, S: Screen, W: Write, E: Write>(
         Ok(two) => two,
         Err(failure) => return tell(&failure, stderr),
     };
-    let commands = match script_of(alloc, words.run.script, bytes.as_slice()) {
+    let commands = match script_of(setting.alloc, words.run.script, bytes.as_slice()) {
         Ok(commands) => commands,
         Err(failure) => return tell(&failure, stderr),
     };
-    let script = Script { commands };
-    perform_source(alloc, words, image, &script, host, meter, stdout, stderr)
+    let reading = Reading {
+        words: &words,
+        piece: Piece::Script(commands.as_slice()),
+        image,
+    };
+    perform_read(setting, reading, host, stdout, stderr)
 }
 
 // A run that a play has the events of.
 fn perform_play<H: Host, S: Screen, W: Write, E: Write>(
-    alloc: Global,
+    setting: Setting<'_, S>,
     words: Trace<'_>,
     host: &mut H,
-    meter: &Meter<S>,
     stdout: &mut W,
     stderr: &mut E,
 ) -> u8 {
-    let name = words.run.script;
     let (image, text) = match plays::read_both(host, &words.run) {
         Ok(two) => two,
         Err(failure) => return tell(&failure, stderr),
     };
-    let play = match parse(alloc, text.as_slice()) {
+    let play = match parse_play(setting.alloc, text.as_slice()) {
         Ok(play) => play,
-        Err(fault) => return plays::tell_fault(name, fault, stderr),
+        Err(fault) => return plays::tell_fault(words.run.script, fault, stderr),
     };
-    perform_source(alloc, &words, image, &play, host, meter, stdout, stderr)
+    let reading = Reading {
+        words: &words,
+        piece: Piece::Play(&play),
+        image,
+    };
+    perform_read(setting, reading, host, stdout, stderr)
 }
 
 /// The command `trace`: as `run` or `play`, and what each process does is written as it does it.
 pub fn perform<H: Host, S: Screen, W: Write, E: Write>(
-    alloc: Global,
+    setting: Setting<'_, S>,
     words: Trace<'_>,
     host: &mut H,
-    meter: &Meter<S>,
     stdout: &mut W,
     stderr: &mut E,
 ) -> u8 {
@@ -424,8 +371,8 @@ pub fn perform<H: Host, S: Screen, W: Write, E: Write>(
         return tell(&failure, stderr);
     }
     if words.play {
-        perform_play(alloc, words, host, meter, stdout, stderr)
+        perform_play(setting, words, host, stdout, stderr)
     } else {
-        perform_script(alloc, &words, host, meter, stdout, stderr)
+        perform_script(setting, words, host, stdout, stderr)
     }
 }

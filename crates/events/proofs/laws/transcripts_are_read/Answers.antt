@@ -1,4 +1,4 @@
-use Rattle.events.proofs.Reading.{are-read}
+use Rattle.events.proofs.RowsRead.{are-read}
 use Rattle.events.proofs.laws.transcripts_are_read.Goals as goal
 
 pub returns : goal.returns

@@ -4,4 +4,5 @@ use Rattle.hosts.specs.Fronts.{IsWhole}
 
 pub returns : goal.returns
 returns g c = explored-from c.args.image.bytes.items c.args.texts.now.keys.items c.args.words.now
-    c.in_ok-first.first.state (IsWhole c.args.image) c.look_around.result c.in_ok-first.ensures c.look_around.ensures
+    c.in_ok-first.first.state (IsWhole c.args.image) c.look_around.result
+    c.in_ok-first.ensures.begun c.look_around.ensures

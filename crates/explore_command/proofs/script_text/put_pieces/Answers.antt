@@ -1,8 +1,9 @@
-use Rattle.explore_command.proofs.Recording.{nothing-recorded, piece-recorded}
+use Rattle.events.proofs.Recording.{records-none}
+use Rattle.explore_command.proofs.Recording.{piece-recorded}
 use Rattle.explore_command.proofs.script_text.put_pieces.Goals as goal
 
 pub loop-piece-init : goal.loop-piece-init
-loop-piece-init c = nothing-recorded c.args.transcript.now
+loop-piece-init c = records-none c.args.transcript.now
 
 pub loop-piece-preserved : goal.loop-piece-preserved
 loop-piece-preserved c =

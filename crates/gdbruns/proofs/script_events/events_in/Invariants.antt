@@ -1,5 +1,5 @@
 use Rattle.std.proofs.Common.{take, ◌≡◌}
-use Rattle.live.specs.Plays.{script_events}
+use Rattle.events.specs.Scripts.{script_events}
 use Rattle.gdbruns.proofs.script_events.events_in.Given as goal
 
 -- the commands so far are spelled

@@ -7,4 +7,5 @@ returns-then-is_reached g c = inl (match-yes _ _ _ c.is_reached.ensures c.if-is_
 
 pub returns : goal.returns
 returns g c =
-    match-stuck _ _ _ _ _ (match-no _ _ _ c.is_reached.ensures c.if-is_reached.false) c.is_stuck.ensures
+    match-stuck _ _ _ _ _ _ (match-no _ _ _ c.is_reached.ensures c.if-is_reached.false) c.requires.goes
+    c.is_stuck.ensures

@@ -10,6 +10,7 @@ invariant-loop-made g l = record {
       (g.R.Record.kept l.fn.self.keeper) (g.R.Record.kept l.self.keeper);
   within : l.made ≤ l.times;
   clock : l.self.clock ≡ l.fn.self.clock;
+  rest : g.R.Record.rest l.self.keeper ≡ g.R.Record.rest l.fn.self.keeper;
 }
 
 abbrev pub decreases-loop-made : goal.decreases-loop-made

@@ -1,4 +1,4 @@
-use Rattle.std.proofs.Common.{None, ap, arith, option_map, refl, suc, sym, ◌-◌, ◌∙◌, ◌≡◌}
+use Rattle.std.proofs.Common.{ap, arith, option_map, refl, suc, sym, ◌-◌, ◌≡◌}
 use Rattle.std.proofs.lemmas.Bool.Decides.{nat_tests}
 use Rattle.driver.proofs.Playing.{line-asks, over-asks, plays-counted, plays-none}
 use Rattle.driver.proofs.play.LinesSource.next.Goals as goal

@@ -1,5 +1,5 @@
 use Rattle.std.proofs.Common.{refl, rules, ◌≡◌}
-use Rattle.events.proofs.Reading.{text-read}
+use Rattle.events.proofs.RowsRead.{text-read}
 use Rattle.events.specs.Rows.{rows_text}
 use Rattle.events.proofs.transcript.Transcript.text.Goals as goal
 

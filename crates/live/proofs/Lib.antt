@@ -1,4 +1,0 @@
-mod Common
-pub mod EventLemmas
-mod SeenLemmas
-pub mod SessionLemmas

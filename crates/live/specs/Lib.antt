@@ -1,3 +1,0 @@
-pub mod Plays
-pub mod Moves
-pub mod Sessions

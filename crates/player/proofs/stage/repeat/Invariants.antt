@@ -1,9 +1,0 @@
-use Rattle.std.proofs.Common.{Ok}
-use Rattle.player.specs.Played.{PlaysTo}
-use Rattle.player.proofs.stage.repeat.Given as goal
-
--- what came so far is played
-abbrev pub invariant-loop-made : goal.invariant-loop-made
-invariant-loop-made g l =
-    PlaysTo g.W.Write.contents g.R.Record.kept l.fn.machine l.machine l.fn.out.out l.out.out l.fn.keeper l.keeper
-    (Ok tt)

@@ -1,6 +1,0 @@
-use Rattle.std.proofs.Common.{map, take}
-use Rattle.scripts.specs.Lines.{AreSaid}
-use Rattle.scripts.proofs.lines.from_lines.Given as goal
-
-abbrev pub invariant-loop-index : goal.invariant-loop-index
-invariant-loop-index g l = AreSaid g.L.FromLine.says (take l.index (map (λ line. line.now) l.lines)) l.said.items

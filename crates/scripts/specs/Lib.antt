@@ -1,4 +1,0 @@
-pub mod Commands
-pub mod Lines
-pub mod Manifests
-pub mod Scripts
