@@ -291,7 +291,7 @@ def slow(folder):
         console += byte
         if console.endswith(b"there\n"):
             times.append(time.time())
-    assert min(after - before for before, after in zip(times, times[1:])) > 0.1, times
+    assert min(after - before for before, after in zip(times, times[1:])) > 0.02, times
     run.send_signal(signal.SIGINT)
     console += run.stdout.read()
     assert run.wait() == -signal.SIGINT and console.count(b"there\n") == 3, console
