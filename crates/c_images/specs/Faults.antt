@@ -6,10 +6,10 @@ use Rattle.imagecheck.specs.declared.ImageFault.{ImageFault}
 use Rattle.imagecheck.specs.declared.ImageFault.TheVariants as image
 use Rattle.imagemake.specs.declared.manifest.MakeFault.{MakeFault}
 use Rattle.imagemake.specs.declared.manifest.MakeFault.TheVariants as make
-use Rattle.listings.specs.declared.directory.ListingFault.{ListingFault}
-use Rattle.listings.specs.declared.directory.ListingFault.TheVariants as listing
-use Rattle.listings.specs.declared.opening_fault.OpeningFault.{OpeningFault}
-use Rattle.listings.specs.declared.opening_fault.OpeningFault.TheVariants as opening
+use Rattle.image_files.specs.declared.directory.ListingFault.{ListingFault}
+use Rattle.image_files.specs.declared.directory.ListingFault.TheVariants as listing
+use Rattle.image_files.specs.declared.opening_fault.OpeningFault.{OpeningFault}
+use Rattle.image_files.specs.declared.opening_fault.OpeningFault.TheVariants as opening
 use Rattle.migrate.specs.declared.fault.MigrateFault.{MigrateFault}
 use Rattle.migrate.specs.declared.fault.MigrateFault.TheVariants as migrate
 use Rattle.std.specs.declared.alloc.AllocError.{AllocError}

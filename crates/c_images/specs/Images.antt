@@ -8,9 +8,9 @@ use Rattle.imagecheck.specs.declared.ImageFault.{ImageFault}
 use Rattle.imagecheck.specs.declared.rules.Summary.{Summary}
 use Rattle.imagecheck.specs.Faults.{Denies, Tells}
 use Rattle.imagerules.specs.Places.{files_in}
-use Rattle.listings.specs.Opened.{IsFileOf, IsPut}
-use Rattle.listings.specs.declared.directory.ListingFault.{ListingFault}
-use Rattle.listings.specs.declared.opening_fault.OpeningFault.{OpeningFault}
+use Rattle.image_files.specs.Opened.{IsFileOf, IsPut}
+use Rattle.image_files.specs.declared.directory.ListingFault.{ListingFault}
+use Rattle.image_files.specs.declared.opening_fault.OpeningFault.{OpeningFault}
 use Rattle.migrate.specs.Copies.{IsBroken, Overfills}
 use Rattle.migrate.specs.declared.fault.MigrateFault.{MigrateFault}
 use Rattle.migrate.specs.declared.fault.MigrateFault.TheVariants as migrate

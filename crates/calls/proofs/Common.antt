@@ -44,7 +44,7 @@ pub use Rattle.kernel.specs.Ready.{has_slept, Stands}
 pub use Rattle.kernel.specs.Replacing.{HasReplaced, Replaces}
 pub use Rattle.kernel.specs.Sound.{can_answer, file_named, is_on_pipe, IsFresh, IsKernel, IsPending, IsPlaced}
 pub use Rattle.kernel.specs.Whole.{with_space, with_table}
-pub use Rattle.names.proofs.Finding.{enter-parts, make-parts, unlink-parts}
+pub use Rattle.name_rules.proofs.Finding.{enter-parts, make-parts, unlink-parts}
 pub use Rattle.proc.specs.Places.{changed, Places, with_descriptor}
 pub use Rattle.proc.specs.declared.process.Process.{Process}
 pub use Rattle.spaces.proofs.SpacesLemmas.{held-same, some-pipe, taken-placed}

@@ -23,7 +23,7 @@ use Rattle.kernel.proofs.Steps.{counting-kernel}
 use Rattle.unixmodel.specs.Files.{blocks_for, size_of, without_place}
 use Rattle.kernel.proofs.Runs.{away-loaded, opened-loaded, used-loaded}
 use Rattle.calls.specs.Named.{IsNamed}
-use Rattle.names.proofs.Finding.{find-used}
+use Rattle.name_rules.proofs.Finding.{find-used}
 use Rattle.kernel.proofs.Memories.{folder-there, kept-is, reaps}
 use Rattle.tree.specs.declared.TreeFault.TheVariants.{Device}
 use Rattle.unixmodel.specs.Counts.{opens_of}

@@ -22,7 +22,7 @@ use Rattle.calls.specs.Opened.{Asks, cut_tree, file_by, IsCut, IsOpenable, may_o
 use Rattle.kernel.proofs.Turning.{open-state}
 use Rattle.files.specs.declared.file.OpenFile.{OpenFile}
 use Rattle.files.specs.Places.{opens_of}
-use Rattle.names.proofs.Finding.{spot-absent}
+use Rattle.name_rules.proofs.Finding.{spot-absent}
 use Rattle.unixmodel.specs.Files.Node.{Device}
 use Rattle.unixmodel.specs.NameCalls.{opened, creates, emptied, found_or_made, may_open, new_file, truncated, truncates}
 use Rattle.unixmodel.specs.NameCalls.{make_at}

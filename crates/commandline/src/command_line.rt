@@ -4,10 +4,9 @@ ghost use Rattle.std.specs.Prelude.{slice_get};
 ghost use Rattle.clap.specs.Words.{app_of, first_of, found_of, rows_of, rule_of, subcommand_of, subcommand_rows_of};
 ghost use Rattle.commandline.specs.Asking.{asks, asks_more};
 ghost use Rattle.commandline.specs.Declarations.{AreFirst, DeclaresOwn, IsAmount, IsCount, IsGdb, IsJob, IsLines};
-ghost use Rattle.commandline.specs.Declarations.{IsPart, IsReach, IsRun, IsSigned, IsTelling, IsWritten, Writes, declared};
-ghost use Rattle.commandline.specs.Declarations.{declared_by, declared_top};
-ghost use Rattle.commandline.specs.Declarations.{flag_rule, last_rule, named_rule, option_rule, rule_given};
-ghost use Rattle.commandline.specs.Declarations.{with_declared};
+ghost use Rattle.commandline.specs.Declarations.{IsPart, IsReach, IsRun, IsSigned, IsTelling, IsWritten, Writes};
+ghost use Rattle.commandline.specs.Declarations.{declared, declared_by, declared_top, flag_rule, last_rule, named_rule};
+ghost use Rattle.commandline.specs.Declarations.{option_rule, rule_given, with_declared};
 
 use crate::declarations::{COMMANDS, Declared, EXAMPLE, Given, Word};
 use crate::jobs::{

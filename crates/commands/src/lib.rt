@@ -7,5 +7,5 @@ pub use commandline::{
     As, Asm, Check, Dump, Explore, Files, Flat, Gdb, Get, Job, Lines, Live, Ls, Migrate, Mkfs,
     Part, Play, Put, Reach, Run, Telling, Trace, explains, job,
 };
-pub use hosts::{Front, Host, HostFault, InUse, NoScreen, Screen, Why, refuse};
+pub use host::{Front, Host, HostFault, InUse, NoScreen, Screen, Why, refuse};
 pub use image_commands::{explain, explain_words};

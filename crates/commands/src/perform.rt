@@ -3,7 +3,7 @@
 mod tracing;
 
 use commandline::{Job, Mkfs};
-use hosts::{Failure, Host, Screen, print, read, tell};
+use host::{Failure, Host, Screen, print, read, tell};
 use image::Summary;
 use image_commands::{assembling, images, openings, program_files};
 use jobfiles::named_twice;

@@ -6,9 +6,9 @@ pub use Rattle.std.proofs.KnownBytes.{Appends-nil, Appends-trans}
 pub use Rattle.std.proofs.lemmas.Bool.{ne_eqb}
 pub use Rattle.std.proofs.lemmas.Grind.{common_steps}
 pub use Rattle.std.specs.Io.KnownBytes.{Appends}
-pub use Rattle.ring.proofs.RingLemmas.{first-ring, length-ring, none-ring, ring-append, ring-around, ring-push}
-pub use Rattle.ring.proofs.RingLemmas.{ring-set_behind, take-ring}
-unfoldable pub use Rattle.ring.specs.Ring.{ring}
+pub use Rattle.ring_laws.proofs.RingLemmas.{first-ring, length-ring, none-ring, ring-append, ring-around, ring-push}
+pub use Rattle.ring_laws.proofs.RingLemmas.{ring-set_behind, take-ring}
+unfoldable pub use Rattle.ring_laws.specs.Ring.{ring}
 pub use Rattle.unixmodel.specs.Console.{commit, Console, erase_byte, erase_line, rub_out, Taken, with_byte}
 unfoldable pub use Rattle.unixmodel.specs.Console.{key, take_line}
 pub use Rattle.console.specs.Line.{behind, keyed_by, line_of, without_last}

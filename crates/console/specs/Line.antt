@@ -1,7 +1,7 @@
 -- How a console's bytes lie in its ring, and what a key does there.
 use Rattle.std.specs.Prelude.{[], List, false, length, suc, take, zero, ℕ, ◌++◌, ◌+◌, ◌-◌, ◌∷◌, ◌≡◌}
 use Rattle.unixmodel.specs.Console.{Console, Keyed, Taken, committed_at_end, no_key, is_full, rub_out, with_byte}
-use Rattle.ring.specs.Ring.{ring}
+use Rattle.ring_laws.specs.Ring.{ring}
 use Rattle.console.specs.declared.input.Change.{Change}
 use Rattle.console.specs.declared.input.Change.TheVariants.{Add, Erase, Nothing}
 

@@ -2,7 +2,7 @@
 
 ghost use Rattle.std.specs.Prelude.{◌≡◌, ◌≢◌, All, OnOk, false};
 ghost use Rattle.std.specs.Bool.{OnTrue};
-ghost use Rattle.names.specs.Rules.{KeepsTree};
+ghost use Rattle.name_rules.specs.Rules.{KeepsTree};
 ghost use Rattle.tree.specs.Tree.{has_failed};
 
 use crate::devices::fail_after;

@@ -5,7 +5,7 @@ use crate::printing::Count;
 use crate::search::{Explored, copy_of};
 use crate::watcher::Watcher;
 use explore::Trouble;
-use hosts::{Failure, Host};
+use host::{Failure, Host};
 use std::alloc::Global;
 use std::fmt;
 

@@ -1,7 +1,7 @@
 //! The command `explore`.
 ghost use Rattle.std.specs.Prelude.{◌≡◌, IfOk};
 ghost use Rattle.explore_command.specs.Explored.{IsBegun, IsExplored, IsSearched, IsVerdictOf, bounds_of};
-ghost use Rattle.hosts.specs.Fronts.{IsWhole};
+ghost use Rattle.host.specs.Fronts.{IsWhole};
 ghost use Rattle.orders.specs.Tidy.{IsTidy};
 
 use crate::drawn_runs::{Drawn, Runner, draw_runs};
@@ -13,7 +13,7 @@ use crate::verdict::Verdict;
 use crate::watcher::{Cause, Want, Watcher};
 use commandline::Explore;
 use explore::{Bounds, Task, Trouble, tables_stay_tidy};
-use hosts::{Failure, Front, Host, disk_of, make_folder, print, read, read_image, tell};
+use host::{Failure, Front, Host, disk_of, make_folder, print, read, read_image, tell};
 use machine::boot;
 use run_commands::script_of;
 use std::alloc::Global;

@@ -4,7 +4,7 @@ use crate::search::Explored;
 use crate::shown::{Shown, ShownFault, show};
 use commandline::{Explore, Reach};
 use explore::{Outcome, Path, Progress, Standing};
-use hosts::{Failure, Host, Screen, write};
+use host::{Failure, Host, Screen, write};
 use std::alloc::{AllocError, Global};
 use std::fmt;
 

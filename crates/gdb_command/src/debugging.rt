@@ -11,7 +11,7 @@ use commandline::Gdb;
 use events::Command;
 use gdbruns::{Limits, RunFault, debug_disk};
 use gdbserver::Peer;
-use hosts::{Failure, Front, Host, disk_of, read, read_image, tell};
+use host::{Failure, Front, Host, disk_of, read, read_image, tell};
 use run_commands::{programs_named, programs_of, script_of};
 use std::alloc::Global;
 use std::io::Write;

@@ -1,7 +1,7 @@
 //! What gdb needs before it connects.
-ghost use Rattle.hosts.specs.Reports.{IsPrintStatus};
+ghost use Rattle.host.specs.Reports.{IsPrintStatus};
 
-use hosts::print;
+use host::print;
 use std::io::Write;
 
 /// The lines. gdb waits a minute for the machine to boot, finds programs on it (`sysroot`), keeps both processes of a

@@ -2,7 +2,7 @@
 ghost use Rattle.std.specs.Prelude.{◌≡◌, ◌≤◌, length};
 
 use gdbserver::Peer;
-use hosts::{Failure, Host, Why};
+use host::{Failure, Host, Why};
 use std::io::Write;
 use symbolizer::Program;
 

@@ -3,7 +3,7 @@ ghost use Rattle.std.specs.Prelude.{replicate, ◌<◌, ◌≤◌};
 ghost use Rattle.events.specs.Records.{Records};
 
 use events::Record;
-use hosts::{Failure, Host};
+use host::{Failure, Host};
 use run_commands::Scribe;
 use std::alloc::Global;
 use timeline::Timeline;

@@ -1,9 +1,9 @@
 //! What the next event makes of processes: one forks, ends, or becomes another program.
 use crate::reasons::{EXEC, EXIT, FORK};
 use crate::stops::{call_of, who_runs};
-use causes::cause;
 use gdbstate::bytes_at;
 use machine::{ProcessState, Seen};
+use next_fault::cause;
 use std::alloc::{AllocError, Global};
 use timeline::{Debuggee, Timeline};
 use unixmodel::event::Event;

@@ -4,10 +4,10 @@ ghost use Rattle.gdbmotions.specs.Signals.{signal_of};
 
 use crate::points::Points;
 use crate::sight::is_so;
-use causes::{cause, word};
 use gdbreplies::{Signal, Stop};
 use gdbstate::{Break, Reasons, Watched, is_accessed, is_ecall, is_stepped, number_at};
 use machine::Seen;
+use next_fault::{cause, word};
 use timeline::Debuggee;
 use unixmodel::trap::Cause;
 

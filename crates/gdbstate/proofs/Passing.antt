@@ -6,7 +6,7 @@ use Rattle.std.proofs.lemmas.Bool.{false≢true, or_from, or_parts}
 use Rattle.std.proofs.lemmas.Bool.Decides.{nat_tests}
 use Rattle.std.specs.List.{list_any}
 use Rattle.calls.specs.Computing.{computes, computes_as, is_done, stands_at}
-use Rattle.causes.specs.Causes.{memory_of, memory_shown, trap_of, trap_shown}
+use Rattle.next_fault.specs.Causes.{memory_of, memory_shown, trap_of, trap_shown}
 use Rattle.gdbstate.specs.Accesses.{access_at}
 use Rattle.gdbstate.specs.declared.reasons.Reasons.{Reasons}
 use Rattle.gdbstate.specs.declared.reasons.Stepping.{Stepping}

@@ -1,7 +1,7 @@
 -- Loads and stores before which a motion ends.
 use Rattle.std.specs.Prelude.{Bool, None, Option, Some, false, nat_lt, not, option_and_then, ℕ, ◌&&◌, ◌+◌, ◌==◌, ◌||◌}
-use Rattle.causes.specs.DataAccesses.{access_shown}
-use Rattle.causes.specs.declared.accesses.DataAccess.{DataAccess}
+use Rattle.next_fault.specs.DataAccesses.{access_shown}
+use Rattle.next_fault.specs.declared.accesses.DataAccess.{DataAccess}
 use Rattle.gdbstate.specs.declared.accesses.AccessWatch.{AccessWatch}
 use Rattle.unixmodel.specs.Shown.{shown_process}
 use Rattle.unixmodel.specs.State.{State}

@@ -2,7 +2,7 @@
 use Rattle.std.specs.Prelude.{Bool, List, None, Option, Some, false, get_or, is_some, length, nat_le, nat_lt}
 use Rattle.std.specs.Prelude.{option_and_then, option_map, slice_index, true, ℕ, ◌&&◌, ◌==◌, ◌||◌}
 use Rattle.std.specs.List.{list_any}
-use Rattle.causes.specs.Causes.{memory_shown, trap_shown}
+use Rattle.next_fault.specs.Causes.{memory_shown, trap_shown}
 use Rattle.gdbstate.specs.Accesses.{access_at}
 use Rattle.gdbstate.specs.declared.reasons.Break.{Break}
 use Rattle.gdbstate.specs.declared.reasons.Reasons.{Reasons}

@@ -2,7 +2,7 @@
 ghost use Rattle.std.specs.Prelude.{◌≡◌, Some};
 ghost use Rattle.gdbstate.specs.Accesses.{access_at, touches};
 
-use causes::{DataAccess, data_access};
+use next_fault::{DataAccess, data_access};
 use timeline::Debuggee;
 
 /// Bytes of a process before whose loads a motion ends, and before whose stores, too, where these are meant.

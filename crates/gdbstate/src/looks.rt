@@ -1,7 +1,7 @@
 //! What a machine shows of the registers and the memory of a process.
 ghost use Rattle.std.specs.Prelude.{◌≡◌, ◌+◌, ◌++◌, IfOk, OnOk, min, option_map};
-ghost use Rattle.gdbstate.specs.Looks.{byte_from, byte_shown, bytes_shown, memory_answer, register_answer, registers_answer};
-ghost use Rattle.gdbstate.specs.Looks.{register_numbered};
+ghost use Rattle.gdbstate.specs.Looks.{byte_from, byte_shown, bytes_shown, memory_answer, register_answer};
+ghost use Rattle.gdbstate.specs.Looks.{registers_answer, register_numbered};
 ghost use Rattle.machine.specs.Seen.{seen_of};
 ghost use Rattle.unixmodel.specs.Shown.{shown_process};
 

@@ -9,9 +9,9 @@ ghost use Rattle.kernel.specs.Idle.{running_pid};
 
 use crate::accesses::{AccessWatch, is_accessed};
 use crate::watches::{Watched, has_changed, is_near};
-use causes::{cause, word};
 use isa::{Instr, decode};
 use machine::Seen;
+use next_fault::{cause, word};
 use timeline::{Debuggee, Wanted};
 
 /// A break of a process.

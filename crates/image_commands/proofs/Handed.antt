@@ -12,9 +12,9 @@ use Rattle.commandline.specs.declared.jobs.Ls.{Ls}
 use Rattle.commandline.specs.declared.jobs.Migrate.{Migrate}
 use Rattle.commandline.specs.declared.jobs.Mkfs.{Mkfs}
 use Rattle.commandline.specs.declared.jobs.Put.{Put}
-use Rattle.hosts.specs.Files.{Holds, HoldsFront, HostFiles, IsFront, Writes, with_file}
-use Rattle.hosts.specs.Fronts.{IsWhole}
-use Rattle.hosts.specs.declared.host.Front.{Front}
+use Rattle.host.specs.Files.{Holds, HoldsFront, HostFiles, IsFront, Writes, with_file}
+use Rattle.host.specs.Fronts.{IsWhole}
+use Rattle.host.specs.declared.host.Front.{Front}
 use Rattle.image_commands.specs.Entries.{IsManifestOf}
 use Rattle.image_commands.specs.Handed.{AssemblesIn, Checks, GetsIn, HoldsDisk, HoldsFile, IsRead, IsUsed, Known}
 use Rattle.image_commands.specs.Handed.{Lists, MakesIn, MigratesIn, PutsIn}
@@ -23,8 +23,8 @@ use Rattle.imagemake.specs.Making.{MakesImage, meaning}
 use Rattle.imagemake.specs.declared.manifest.Entry.{Entry}
 use Rattle.imagerules.specs.Content.{image_of}
 use Rattle.imagerules.proofs.Spelling.{image_of-blocks}
-use Rattle.listings.specs.Listed.{IsDirectoryOf}
-use Rattle.listings.specs.Opened.{IsFileOf, IsPut}
+use Rattle.image_files.specs.Listed.{IsDirectoryOf}
+use Rattle.image_files.specs.Opened.{IsFileOf, IsPut}
 use Rattle.events.specs.Lines.{AreSaid, lines_of}
 use Rattle.events.specs.Manifests.{IsLine}
 use Rattle.events.specs.declared.manifest.Line.{Line}

@@ -1,6 +1,6 @@
 -- The entries of a manifest, line by line.
 use Rattle.std.proofs.Common.{get_or, length, List, None, Option, Some, ℕ, ◌+◌, ◌<◌, ◌≡◌}
-use Rattle.hosts.specs.Files.{HostFiles}
+use Rattle.host.specs.Files.{HostFiles}
 use Rattle.image_commands.specs.Entries.{IsEntryOf, counts_in}
 use Rattle.imagemake.specs.declared.manifest.Entry.{Entry}
 use Rattle.events.specs.declared.manifest.Line.{Line}

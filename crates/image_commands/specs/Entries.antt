@@ -2,7 +2,7 @@
 use Rattle.std.specs.Prelude.{IfSome, List, Option, Some, get_or, if◌then◌else◌, length, min, nat_le, take, ℕ}
 use Rattle.std.specs.Prelude.{◌*◌, ◌+◌, ◌<◌, ◌≡◌, ◌⊎◌}
 use Rattle.std.specs.List.{sum_by}
-use Rattle.hosts.specs.Files.{HostFiles}
+use Rattle.host.specs.Files.{HostFiles}
 use Rattle.events.specs.declared.manifest.Line.{Line}
 use Rattle.events.specs.declared.manifest.Line.TheVariants as line
 use Rattle.imagemake.specs.declared.manifest.Entry.{Entry}

@@ -8,7 +8,7 @@ use Rattle.commandline.specs.declared.jobs.Ls.{Ls}
 use Rattle.commandline.specs.declared.jobs.Migrate.{Migrate}
 use Rattle.commandline.specs.declared.jobs.Mkfs.{Mkfs}
 use Rattle.commandline.specs.declared.jobs.Put.{Put}
-use Rattle.hosts.specs.Files.{HostFiles, with_file}
+use Rattle.host.specs.Files.{HostFiles, with_file}
 use Rattle.image_commands.specs.Entries.{IsManifestOf}
 use Rattle.imagecheck.specs.declared.rules.Summary.{Summary}
 use Rattle.imagemake.specs.Making.{MakesImage, meaning}
@@ -16,8 +16,8 @@ use Rattle.imagemake.specs.declared.manifest.Entry.{Entry}
 use Rattle.events.specs.Lines.{AreSaid, lines_of}
 use Rattle.events.specs.Manifests.{IsLine}
 use Rattle.events.specs.declared.manifest.Line.{Line}
-use Rattle.listings.specs.Listed.{IsDirectoryOf}
-use Rattle.listings.specs.Opened.{IsFileOf, IsPut}
+use Rattle.image_files.specs.Listed.{IsDirectoryOf}
+use Rattle.image_files.specs.Opened.{IsFileOf, IsPut}
 use Rattle.unixmodel.specs.Assembly as the
 use Rattle.unixmodel.specs.Files.{Files}
 use Rattle.unixmodel.specs.Image.{Denotes, DenotesSmall, named_blocks, numbers_in_use}

@@ -4,7 +4,7 @@ use assembly_texts::{
     File, MOST_BYTES, Made, Program, Reporter, Sources, Unmade, make, make_with_lines,
 };
 use commandline::{As, Files};
-use hosts::{Failure, Host, read_front, write};
+use host::{Failure, Host, read_front, write};
 use std::alloc::{AllocError, Global};
 use std::io::Write;
 

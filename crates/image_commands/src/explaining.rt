@@ -9,7 +9,7 @@ use explanations::words::{
     number_behind,
 };
 use explanations::{Topic, meaning, misfit_of, nearest, oddity_of};
-use hosts::{Host, Why};
+use host::{Host, Why};
 use std::alloc::{AllocError, Global};
 use std::io::Write;
 

@@ -9,7 +9,7 @@ ghost use Rattle.image_commands.specs.Entries.{AreFirst, IsEntryOf, IsManifestOf
 ghost use Rattle.blockdev.specs.Blocks.{blocks_of};
 ghost use Rattle.imagerules.specs.Content.{image_of};
 ghost use Rattle.image_commands.specs.Handed.{Checks, Known, Lists, MakesIn, MigratesIn};
-ghost use Rattle.listings.specs.Listed.{IsDirectoryOf};
+ghost use Rattle.image_files.specs.Listed.{IsDirectoryOf};
 ghost use Rattle.events.specs.Lines.{AreSaid, lines_of};
 ghost use Rattle.events.specs.Manifests.{IsLine};
 ghost use Rattle.migrate.specs.Copies.{Overfills};
@@ -18,10 +18,10 @@ use crate::openings::disk_at;
 use blockdev::{BLOCK_SIZE, MemDisk};
 use commandline::{Check, Ls, Migrate, Mkfs};
 use events::{Line, TextFault, parse};
-use hosts::{Failure, Host, bytes_of, read_front, write};
+use host::{Failure, Host, bytes_of, read_front, write};
 use image::{Entry, Manifest, MigrateFault, Summary, Thing};
+use image_files::{ListingFault, write_directory, write_tree};
 use layout::{Format, LONGEST, MOST_BLOCKS};
-use listings::{ListingFault, write_directory, write_tree};
 use std::alloc::{AllocError, Global};
 use std::io::Write;
 

@@ -4,9 +4,9 @@ ghost use Rattle.image_commands.specs.Handed.{Gets, HoldsDisk, HoldsFile, Known,
 
 use blockdev::MemDisk;
 use commandline::{Get, Put};
-use hosts::{Failure, Host, disk_of, hold, read_front, read_image, write};
+use host::{Failure, Host, disk_of, hold, read_front, read_image, write};
+use image_files::{OpeningFault, read_file, write_file};
 use layout::LONGEST;
-use listings::{OpeningFault, read_file, write_file};
 use std::alloc::Global;
 use std::io::Write;
 

@@ -5,8 +5,8 @@ ghost use Rattle.image_commands.specs.Handed.{AssemblesIn, Known};
 use addresses::Names;
 use asm::assemble;
 use commandline::{Asm, Dump};
-use hosts::{Failure, Host, read, read_marked, write};
-use listings::{ProgramFault, segments, write_program};
+use host::{Failure, Host, read, read_marked, write};
+use image_files::{ProgramFault, segments, write_program};
 use std::alloc::Global;
 use std::io::Write;
 

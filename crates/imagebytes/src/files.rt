@@ -1,10 +1,10 @@
 //! Files and directories of an image.
 ghost use Rattle.std.specs.Prelude.{◌≡◌, IfOk, OnOk, length};
-ghost use Rattle.listings.specs.Listed.{IsDirectoryOf};
-ghost use Rattle.listings.specs.Opened.{IsFileOf, IsPut};
+ghost use Rattle.image_files.specs.Listed.{IsDirectoryOf};
+ghost use Rattle.image_files.specs.Opened.{IsFileOf, IsPut};
 
 use crate::checking::disk_of;
-use listings::{ListingFault, OpeningFault, read_file, write_directory, write_file};
+use image_files::{ListingFault, OpeningFault, read_file, write_directory, write_file};
 use std::alloc::Global;
 
 /// The bytes of the file that a path reaches from the root of an image, which is checked first.

@@ -10,6 +10,6 @@ pub use checking::check;
 pub use entries::EntryTold;
 pub use files::{get, list, put};
 pub use image::{ImageFault, MakeFault, MigrateFault, Summary, migrate};
-pub use listings::{ListingFault, OpeningFault};
+pub use image_files::{ListingFault, OpeningFault};
 pub use making::{MakingFault, make};
 pub use tree::TreeFault;

@@ -37,11 +37,11 @@ unfoldable pub use Rattle.layout.specs.Image.{bit_in, byte_of, bytes_of, node_at
 pub use Rattle.layout.specs.Sound.{HasParts, IsNamed, IsSound}
 pub use Rattle.layout.specs.Super.{bitmap_start_of, data_start_of, super_of}
 pub use Rattle.layout.specs.declared.Geometry.{Geometry}
-pub use Rattle.names.proofs.Counts.{names_by-le}
-pub use Rattle.names.proofs.Finding.{change-is, position-None, IsGap}
-pub use Rattle.names.proofs.Quiet.{HasLinked}
-pub use Rattle.names.specs.Rules.{KeepsLive, KeepsTree, names_for}
-unfoldable pub use Rattle.names.specs.Rules.{folders, names_by}
+pub use Rattle.name_rules.proofs.Counts.{names_by-le}
+pub use Rattle.name_rules.proofs.Finding.{change-is, position-None, IsGap}
+pub use Rattle.name_rules.proofs.Quiet.{HasLinked}
+pub use Rattle.name_rules.specs.Rules.{KeepsLive, KeepsTree, names_for}
+unfoldable pub use Rattle.name_rules.specs.Rules.{folders, names_by}
 pub use Rattle.tree.proofs.Following.{end-lost, IsNow, lost-served, now-begin, now-changed, now-files, now-limit}
 pub use Rattle.tree.proofs.Following.{now-read, now-turned, now-up, some-now, turned-last}
 pub use Rattle.tree.proofs.Places.{blocks_of-entered, entered-is, room-end, enter-room, none-not}

@@ -10,11 +10,11 @@ use Rattle.imagemake.proofs.Common.{dot_dot, is_directory, KeepsRules, is_direct
 use Rattle.imagemake.proofs.Common.{KeepsTree, folders, names_for, HasLinked, ne_eqb, Directory, LinksAt-from, IsSome}
 use Rattle.imagemake.proofs.Common.{is_some, All-nil, cond-true, links_of, names_by-le}
 use Rattle.imagecheck.proofs.Reaching as reaching
-use Rattle.names.proofs.Finding.{named-used}
-use Rattle.names.proofs.Counts.{entry-names, count_by-item, counted-none, counted-one}
+use Rattle.name_rules.proofs.Finding.{named-used}
+use Rattle.name_rules.proofs.Counts.{entry-names, count_by-item, counted-none, counted-one}
 use Rattle.imagecheck.proofs.Reaching.{all-entries, Climbs-child, Climbs-reached, IsReached-from, parent_root}
 use Rattle.imagecheck.specs.Reach.{ancestor, Climbs}
-use Rattle.names.specs.Rules.{entries, HasRoot, IsLive, IsRanked}
+use Rattle.name_rules.specs.Rules.{entries, HasRoot, IsLive, IsRanked}
 
 -- ---- what holds of all entries of a directory, as a count
 

@@ -12,8 +12,8 @@ use Rattle.imagemake.proofs.Common.{size_of, Wrong, if_room, is_short, PackedAt,
 use Rattle.imagemake.proofs.Common.{filter, get_or, not, cases_lt, length-filter, entries_of, is_directory_at}
 use Rattle.imagemake.proofs.Common.{below-slot, filter_passes, names_by, names_by-le, is_some, eq-eqb}
 use Rattle.unixmodel.specs.NameCalls.{Made, make_at}
-use Rattle.names.specs.Changes.{Changed}
-use Rattle.names.proofs.Changing.{makes-directory, makes-file}
+use Rattle.name_rules.specs.Changes.{Changed}
+use Rattle.name_rules.proofs.Changing.{makes-directory, makes-file}
 use Rattle.imagemake.proofs.FromRules.{KeepsTree-rules, linked-rules, KeepsRules-live, twice, directory-once}
 use Rattle.imagemake.proofs.Putting.{placed-end, room-end-at, packed-node, packed-more}
 use Rattle.std.proofs.lemmas.List.Filters.{sum_by-filter_both}

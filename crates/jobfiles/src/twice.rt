@@ -4,7 +4,7 @@ ghost use Rattle.commandline.specs.Names.{Name, others_of, outputs_of};
 ghost use Rattle.jobfiles.specs.Apart.{AreApart, IsApart, IsApartAt, IsOther};
 
 use commandline::{Job, Names, names_of};
-use hosts::Host;
+use host::Host;
 
 // Whether there is another name, and it is of the same file.
 fn is_same<H: Host>(name: &str, other: Option<&str>, host: &mut H) -> bool

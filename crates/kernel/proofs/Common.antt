@@ -34,8 +34,8 @@ pub use Rattle.files.specs.Meant.{end_of, file_of, target_of}
 pub use Rattle.files.specs.Pipes.{IsPiped}
 pub use Rattle.files.specs.Places.{closed, count_at, count_in, Counted, file_at, IsTable, last_target, more, moved}
 pub use Rattle.files.specs.Places.{moved_in, moved_to, opened, opens_of, place_from, shared}
-pub use Rattle.names.proofs.Finding.{slot-within}
-pub use Rattle.names.specs.Rules.{KeepsTree}
+pub use Rattle.name_rules.proofs.Finding.{slot-within}
+pub use Rattle.name_rules.specs.Rules.{KeepsTree}
 pub use Rattle.proc.proofs.Waiting.{found-any, next-same}
 pub use Rattle.proc.specs.Mask.{is_in}
 pub use Rattle.proc.specs.Pick.{Answers, Picks, place_in_round}

@@ -24,7 +24,7 @@ use Rattle.kernel.proofs.Steps.{held-run, placed-with, counting-kernel}
 use Rattle.kernel.proofs.Turning.{Runner, me_of, runner-of}
 use Rattle.kernel.proofs.Watching.{kernel-waking, watched-roused}
 use Rattle.kernel.proofs.Working.{folder-there}
-use Rattle.names.proofs.Counts.{none-is}
+use Rattle.name_rules.proofs.Counts.{none-is}
 use Rattle.proc.specs.Places as table
 use Rattle.unixmodel.specs.OpenFiles.{OpenFile}
 use Rattle.unixmodel.specs.ProcessCalls as rows

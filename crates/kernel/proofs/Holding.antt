@@ -14,7 +14,7 @@ use Rattle.files.specs.declared.file.OpenFile.{OpenFile}
 use Rattle.files.specs.declared.file.Target.{Target}
 use Rattle.files.specs.declared.file.Target.TheVariants as target
 use Rattle.kernel.specs.Holding.{FitsFiles}
-use Rattle.names.proofs.Quiet.{is_held, kept-same}
+use Rattle.name_rules.proofs.Quiet.{is_held, kept-same}
 use Rattle.tree.proofs.Keeping.{let-go-clear, let-go-held, let-go-linked, let-go-reaps, let-go-keeps}
 use Rattle.tree.proofs.Storing.{blocks_of-set, some-node}
 use Rattle.unixmodel.specs.OpenFiles as unix_files

@@ -21,10 +21,10 @@ use Rattle.files.specs.declared.file.OpenFile.{OpenFile}
 use Rattle.files.specs.declared.file.Target.{Target}
 use Rattle.files.specs.declared.file.Target.TheVariants as target
 use Rattle.kernel.proofs.Holding.{IsHome, held-counts, held-there, home-held, is_by, settled-by, Opens, Processes}
-use Rattle.names.proofs.Quiet.{kept-gone, kept-here, kept-none}
-use Rattle.names.proofs.Changing.{keeps-unlinked}
+use Rattle.name_rules.proofs.Quiet.{kept-gone, kept-here, kept-none}
+use Rattle.name_rules.proofs.Changing.{keeps-unlinked}
 use Rattle.tree.specs.Unlinks.{unlinked_in}
-use Rattle.names.proofs.Quiet as quiet
+use Rattle.name_rules.proofs.Quiet as quiet
 use Rattle.tree.specs.declared.making.Leaf.{Leaf}
 use Rattle.tree.specs.declared.TreeFault.{TreeFault}
 use Rattle.tree.specs.declared.TreeFault.TheVariants.{Device}
@@ -35,7 +35,7 @@ use Rattle.file_transfers.specs.Moved.{IsRead, ReadsSome, with_read, written_fro
 use Rattle.tree.specs.Written.{IsFile}
 use Rattle.unixmodel.specs.Console.{take_line}
 use Rattle.unixmodel.specs.Memory.{write_bytes}
-use Rattle.names.specs.Changes.{Changed, shape, Loses}
+use Rattle.name_rules.specs.Changes.{Changed, shape, Loses}
 use Rattle.tree.proofs.Keeping.{Reaps, unlinked-reaps, created-changed, device-is, folder-changed, linked-changed}
 use Rattle.tree.proofs.Keeping.{written-changed}
 use Rattle.kernel.specs.Disk.{with_tree}

@@ -17,7 +17,7 @@ use Rattle.kernel.proofs.Joined.{opened-put, waits-running, put-joined, put_kept
 use Rattle.kernel.proofs.Joined.{active-same, count-joined, few-taken, opened-active}
 use Rattle.proc.specs.Places as table
 use Rattle.unixmodel.specs.Process as unix
-pub use Rattle.names.proofs.Finding.{slot-within}
+pub use Rattle.name_rules.proofs.Finding.{slot-within}
 
 -- ---- slots
 

@@ -6,7 +6,7 @@ use Rattle.files.specs.declared.file.OpenFile.{OpenFile}
 use Rattle.files.specs.declared.file.Target.{Target}
 use Rattle.files.specs.declared.file.Target.TheVariants as target
 use Rattle.files.specs.Places.{Counted, closed, last_target}
-use Rattle.names.specs.Rules.{KeepsTree}
+use Rattle.name_rules.specs.Rules.{KeepsTree}
 use Rattle.proc.specs.declared.process.Process.{Process}
 use Rattle.tree.specs.Holding.{holders, let_go, without_hold}
 use Rattle.tree.specs.Tree.{FileTree}

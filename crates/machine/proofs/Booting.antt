@@ -25,7 +25,7 @@ use Rattle.unixmodel.specs.OpenFiles as unix_files
 use Rattle.unixmodel.specs.Outcome.{no_descriptors}
 use Rattle.unixmodel.specs.Process as unix
 use Rattle.calls.proofs.Opens.{some-there}
-use Rattle.names.proofs.Finding.{find-used}
+use Rattle.name_rules.proofs.Finding.{find-used}
 use Rattle.programs.proofs.Loads.{IsProgram, is-program, HasProgram, args-long, has-program, length-stacked, no-plan}
 use Rattle.programs.proofs.Loads.{plan-is}
 use Rattle.programs.proofs.Headings.{serves-told}

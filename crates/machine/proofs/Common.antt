@@ -29,7 +29,7 @@ pub use Rattle.kernel.specs.Kernel.{begun, Kernel, state_of}
 pub use Rattle.kernel.specs.Sound.{IsKernel, IsOpened, IsOpenFile, IsPlace, IsPlaced, WaitsWell}
 unfoldable pub use Rattle.kernel.specs.Whole.{joined}
 pub use Rattle.mount.specs.Mounted.{AreLinked, IsFlat, IsMounted, IsUnmounted}
-pub use Rattle.names.specs.Rules.{KeepsTree}
+pub use Rattle.name_rules.specs.Rules.{KeepsTree}
 unfoldable pub use Rattle.proc.specs.Mask.{all_in}
 pub use Rattle.proc.specs.Places.{is_running, Places, seat_of, seated}
 pub use Rattle.proc.specs.declared.process.Process.{Process}

@@ -13,7 +13,7 @@ use Rattle.machine.specs.Flat.{alone}
 use Rattle.machine.specs.Saved.{LosesDevice}
 use Rattle.machine.specs.View.{IsUp, View}
 use Rattle.mount.specs.Mounted.{AreLinked}
-use Rattle.names.specs.Rules.{KeepsTree}
+use Rattle.name_rules.specs.Rules.{KeepsTree}
 use Rattle.proc.specs.declared.process.Process.{Process}
 use Rattle.proc.specs.Mask.{all_in}
 use Rattle.proc.specs.Places.{Places}

@@ -4,7 +4,7 @@ ghost use Rattle.std.specs.Prelude.{◌≡◌, ◌<◌, ◌≤◌, ◌^◌, ◌�
 ghost use Rattle.imagerules.specs.Content.{image_of};
 ghost use Rattle.machine.specs.Booted.{FindsInit, IsBegun, IsBooted, IsNotBegun, IsUnbooted, IsUnheld, PutsInit};
 ghost use Rattle.machine.specs.Booted.{bare_of, boot_fault, first_of, first_places};
-ghost use Rattle.names.specs.Rules.{KeepsTree};
+ghost use Rattle.name_rules.specs.Rules.{KeepsTree};
 ghost use Rattle.programs.specs.Placed.{Leaves};
 ghost use Rattle.spaces.specs.Spaces.{no_spaces};
 ghost use Rattle.tree.specs.Tree.{Serves};

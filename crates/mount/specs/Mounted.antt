@@ -5,7 +5,7 @@ use Rattle.imagecheck.specs.Faults.{IsOfImage, Tells}
 use Rattle.imagecheck.specs.declared.ImageFault.{ImageFault}
 use Rattle.imagecheck.specs.declared.ImageFault.TheVariants.{Device}
 use Rattle.layout.specs.declared.Geometry.{Geometry}
-use Rattle.names.specs.Rules.{KeepsTree}
+use Rattle.name_rules.specs.Rules.{KeepsTree}
 use Rattle.tree.specs.Tree.{FileTree}
 use Rattle.unixmodel.specs.Files.{Files, Node, links_of, slot}
 use Rattle.unixmodel.specs.Formats.{format}

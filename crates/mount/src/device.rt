@@ -3,7 +3,7 @@
 ghost use Rattle.std.specs.Prelude.{◌≡◌, ◌≤◌, IfErr, IfOk, OnOk, false, length};
 ghost use Rattle.imagerules.specs.Content.{image_of};
 ghost use Rattle.mount.specs.Mounted.{AreLinked, IsMounted, IsUnmounted, TellsNumbers};
-ghost use Rattle.names.specs.Rules.{KeepsTree};
+ghost use Rattle.name_rules.specs.Rules.{KeepsTree};
 ghost use Rattle.unixmodel.specs.Failures.{HasCause};
 ghost use Rattle.unixmodel.specs.Image.{Denotes};
 

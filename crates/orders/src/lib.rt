@@ -1,5 +1,5 @@
 //! All orders in which events can come to a machine: timer interrupts at any time, typed bytes where nobody is ready.
-//! A search goes along them, looks at each state once, and tells the different outcomes.
+//! A search goes along them, looks at each state once, and gives the different outcomes.
 //!
 //! A node of the search is a list of events, and no machine: whoever walks along makes the machine anew. A digest finds
 //! a state that was looked at before, and a comparison decides, so no hash is trusted. Where the search says that these

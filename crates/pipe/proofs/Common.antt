@@ -6,5 +6,5 @@ pub use Rattle.std.proofs.lemmas.Grind.{common_steps}
 pub use Rattle.std.proofs.lemmas.List.{drop_min, drop_more, take_min, take_more, take_more_set}
 pub use Rattle.ram.specs.Memory.{frame_of}
 unfoldable pub use Rattle.ram.specs.Memory.{sized}
-pub use Rattle.ring.proofs.RingLemmas.{drop-ring, length-ring, ring-append, ring-around, ring-push, take-ring}
-unfoldable pub use Rattle.ring.specs.Ring.{ring}
+pub use Rattle.ring_laws.proofs.RingLemmas.{drop-ring, length-ring, ring-append, ring-around, ring-push, take-ring}
+unfoldable pub use Rattle.ring_laws.specs.Ring.{ring}

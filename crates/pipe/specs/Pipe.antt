@@ -4,7 +4,7 @@ use Rattle.ram.specs.Memory.{frame_of}
 use Rattle.unixmodel.specs.OpenFiles.{pipe_room}
 use Rattle.files.specs.declared.file.End.{End}
 use Rattle.files.specs.declared.file.End.TheVariants.{Read, Write}
-use Rattle.ring.specs.Ring.{ring}
+use Rattle.ring_laws.specs.Ring.{ring}
 
 pub record Pipe : Type 0 where
   pub frame : ℕ

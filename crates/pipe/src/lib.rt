@@ -7,7 +7,7 @@ ghost use Rattle.ram.specs.Memory.{frame_of};
 ghost use Rattle.unixmodel.specs.OpenFiles.{pipe_room};
 ghost use Rattle.unixmodel.specs.Turn.{is_empty};
 ghost use Rattle.pipe.specs.Pipe.{ring_in};
-ghost use Rattle.ring.specs.Ring.{ring};
+ghost use Rattle.ring_laws.specs.Ring.{ring};
 
 pub use files::End;
 use ram::{FRAME_SIZE, FrameNo, Ram};

@@ -18,9 +18,9 @@ use Rattle.driver.specs.Spots.{Spot}
 use Rattle.driver.specs.Tails.{shown_of, written_of}
 use Rattle.driver.specs.declared.play.Unreached.{Unreached}
 use Rattle.events.specs.Records.{Kept}
-use Rattle.hosts.specs.Reports.{end_of}
-use Rattle.hosts.specs.declared.report.End.{End}
-use Rattle.hosts.specs.declared.report.End.TheVariants.{Halted}
+use Rattle.host.specs.Reports.{end_of}
+use Rattle.host.specs.declared.report.End.{End}
+use Rattle.host.specs.declared.report.End.TheVariants.{Halted}
 use Rattle.machine.proofs.RunLemmas.{stops_before}
 use Rattle.machine.specs.Booted.{IsUnbooted}
 use Rattle.machine.specs.Gives.{RunGives}

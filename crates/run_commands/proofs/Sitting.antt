@@ -7,9 +7,9 @@ use Rattle.driver.specs.Sessions.{Ends, IsSession}
 use Rattle.driver.specs.Tails.{written_of}
 use Rattle.driver.specs.declared.terminal.Given.{Given}
 use Rattle.events.specs.Records.{Kept}
-use Rattle.hosts.specs.Reports.{end_of}
-use Rattle.hosts.specs.declared.report.End.{End}
-use Rattle.hosts.specs.declared.report.End.TheVariants.{Halted}
+use Rattle.host.specs.Reports.{end_of}
+use Rattle.host.specs.declared.report.End.{End}
+use Rattle.host.specs.declared.report.End.TheVariants.{Halted}
 use Rattle.machine.specs.View.{IsUp, View}
 use Rattle.unixmodel.specs.declared.event.Event.{Event}
 use Rattle.std.proofs.Common.{[], append-nil, arith, Bool, Err, false, inl, inr, List, Ok, Option, refl, Result}

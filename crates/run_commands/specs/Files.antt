@@ -4,9 +4,9 @@ use Rattle.blockdev.specs.Blocks.{blocks_of}
 use Rattle.blockdev.specs.Disk.{Disk}
 use Rattle.commandline.specs.declared.jobs.Run.{Run}
 use Rattle.events.specs.Records.{Kept}
-use Rattle.hosts.specs.Files.{Holds, HoldsFront, HostFiles, Writes}
-use Rattle.hosts.specs.Fronts.{IsWhole}
-use Rattle.hosts.specs.declared.host.Front.{Front}
+use Rattle.host.specs.Files.{Holds, HoldsFront, HostFiles, Writes}
+use Rattle.host.specs.Fronts.{IsWhole}
+use Rattle.host.specs.declared.host.Front.{Front}
 use Rattle.run_commands.specs.Shows.{IsRunWith, RefusesWith, ShowsWith, unreached_of}
 use Rattle.run_commands.specs.declared.finish.Finish.{Finish}
 use Rattle.run_commands.specs.declared.performing.Performed.{Performed}

@@ -6,9 +6,9 @@ use Rattle.console.specs.Output.{AppendsBeginning}
 use Rattle.driver.specs.Driven.{Gives, Printed}
 use Rattle.driver.specs.Tails.{written_of}
 use Rattle.events.specs.Records.{Kept}
-use Rattle.hosts.specs.Reports.{end_of}
-use Rattle.hosts.specs.declared.report.End.{End}
-use Rattle.hosts.specs.declared.report.End.TheVariants.{Halted, Running}
+use Rattle.host.specs.Reports.{end_of}
+use Rattle.host.specs.declared.report.End.{End}
+use Rattle.host.specs.declared.report.End.TheVariants.{Halted, Running}
 use Rattle.machine.specs.Gives.{DeviceFailsIn, IsDone}
 use Rattle.machine.specs.Saved.{IsLost, IsSaved}
 use Rattle.machine.specs.View.{IsUp, View}

@@ -4,8 +4,8 @@ use Rattle.driver.specs.Sessions.{GaveFirst, session}
 use Rattle.driver.specs.declared.terminal.Given.{Given}
 use Rattle.driver.specs.declared.terminal.Given.TheVariants as given
 use Rattle.events.specs.Records.{Kept, Records}
-use Rattle.hosts.specs.declared.report.End.{End}
-use Rattle.hosts.specs.declared.report.End.TheVariants.{Halted, Running}
+use Rattle.host.specs.declared.report.End.{End}
+use Rattle.host.specs.declared.report.End.TheVariants.{Halted, Running}
 use Rattle.machine.specs.View.{View}
 use Rattle.run_commands.specs.Runs.{Leaves, PlaysOut}
 use Rattle.run_commands.specs.declared.sessions.Sat.{Sat}

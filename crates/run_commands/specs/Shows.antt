@@ -14,9 +14,9 @@ use Rattle.driver.specs.Spots.{Spot}
 use Rattle.driver.specs.declared.play.Unreached.{Unreached}
 use Rattle.events.specs.Records.{Kept, Records}
 use Rattle.events.specs.Scripts.{script_events}
-use Rattle.hosts.specs.Reports.{end_of}
-use Rattle.hosts.specs.declared.report.End.{End}
-use Rattle.hosts.specs.declared.report.End.TheVariants.{Halted}
+use Rattle.host.specs.Reports.{end_of}
+use Rattle.host.specs.declared.report.End.{End}
+use Rattle.host.specs.declared.report.End.TheVariants.{Halted}
 use Rattle.imagerules.specs.Content.{image_of}
 use Rattle.machine.specs.Booted.{IsBooted, IsUnbooted}
 use Rattle.machine.specs.View.{View}

@@ -5,9 +5,9 @@ use Rattle.std.specs.Int.NonZero.{non_zero_u64_get}
 use Rattle.std.specs.declared.num.NonZeroU64.{NonZeroU64}
 use Rattle.calls.specs.declared.halt.Halt.TheVariants as halt
 use Rattle.commandline.specs.declared.jobs.Telling.{Telling}
-use Rattle.hosts.specs.Reports.{status_of}
-use Rattle.hosts.specs.declared.report.End.{End}
-use Rattle.hosts.specs.declared.report.End.TheVariants.{Halted}
+use Rattle.host.specs.Reports.{status_of}
+use Rattle.host.specs.declared.report.End.{End}
+use Rattle.host.specs.declared.report.End.TheVariants.{Halted}
 use Rattle.reports.specs.declared.teller.Wanted.{Wanted}
 
 -- the process that a number names; there is none with a pid of more than 32 bits

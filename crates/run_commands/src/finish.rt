@@ -2,12 +2,12 @@
 ghost use Rattle.std.specs.Prelude.{IfOk, option_map, ◌≡◌, ◌≢◌};
 ghost use Rattle.calls.specs.declared.halt.Halt.TheVariants.{Console};
 ghost use Rattle.driver.specs.Driven.{halts};
-ghost use Rattle.hosts.specs.Reports.{end_of};
-ghost use Rattle.hosts.specs.declared.report.End.TheVariants.{Halted};
+ghost use Rattle.host.specs.Reports.{end_of};
+ghost use Rattle.host.specs.declared.report.End.TheVariants.{Halted};
 
 use blockdev::BlockDev;
 use driver::Unreached;
-use hosts::End;
+use host::End;
 use machine::{Halt, Machine};
 use reports::PlayEnd;
 use std::fmt;

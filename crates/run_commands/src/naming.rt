@@ -3,7 +3,7 @@ ghost use Rattle.std.specs.Prelude.{IfOk, ◌≡◌};
 ghost use Rattle.std.specs.List.{All};
 ghost use Rattle.symbolizer.specs.Programs.{IsProgram};
 
-use hosts::{Failure, Front, Host, Why, disk_of};
+use host::{Failure, Front, Host, Why, disk_of};
 use std::alloc::{AllocError, Global};
 use symbolizer::{Program, ProgramsFault, Symbolizer, programs};
 

@@ -19,7 +19,7 @@ use blockdev::{BlockDev, FailAt, MemDisk};
 use commandline::Run;
 use driver::{Driver, Unreached, Watch};
 use events::{Command, Play, Record, Unrecorded};
-use hosts::{End, Failure};
+use host::{End, Failure};
 use machine::{BootFault, Halt, Machine, boot, boot_flat_with};
 use std::alloc::Global;
 use std::io::Write;

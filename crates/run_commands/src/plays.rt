@@ -1,6 +1,6 @@
 //! Plays: scripts that wait for what the machine does.
 ghost use Rattle.std.specs.Prelude.{IfOk, IsErr, ◌≡◌};
-ghost use Rattle.hosts.specs.Files.{Holds, HoldsFront};
+ghost use Rattle.host.specs.Files.{Holds, HoldsFront};
 ghost use Rattle.run_commands.specs.Files.{PlaysFront, most_of_image};
 ghost use Rattle.run_commands.specs.Tellings.{IsEndStatus};
 ghost use Rattle.run_commands.specs.declared.performing.Piece.TheVariants as Piece;
@@ -18,7 +18,7 @@ use crate::telling::{
 use commandline::{Play, Run, Telling};
 use driver::Watch;
 use events::{PlayFault, Why, parse_play};
-use hosts::{End, Failure, Front, Host, Screen, disk_of, tell};
+use host::{End, Failure, Front, Host, Screen, disk_of, tell};
 use std::alloc::Global;
 use std::io::Write;
 

@@ -3,7 +3,7 @@ ghost use Rattle.std.specs.Prelude.{◌≡◌, is_some};
 
 use blockdev::BlockDev;
 use driver::{Detail, Watch};
-use hosts::Screen;
+use host::Screen;
 use machine::{Halt, Machine};
 use std::alloc::Global;
 use std::cell::Cell;

@@ -1,6 +1,6 @@
 //! The commands that boot a machine and give it the events of a script.
 ghost use Rattle.std.specs.Prelude.{IfOk, OnOk, option_map, ◌≡◌};
-ghost use Rattle.hosts.specs.Files.{Holds, HoldsFront};
+ghost use Rattle.host.specs.Files.{Holds, HoldsFront};
 ghost use Rattle.run_commands.specs.Files.{IsKept, RunsFiles, most_of_image};
 ghost use Rattle.events.specs.Commands.{IsCommand};
 ghost use Rattle.events.specs.Lines.{AreSaid, lines_of};
@@ -11,7 +11,7 @@ use blockdev::MemDisk;
 use commandline::{Flat, Run};
 use driver::Watch;
 use events::{Command, TextFault, Unrecorded, parse};
-use hosts::{End, Failure, Front, Host, disk_of, read, read_front, read_image, write};
+use host::{End, Failure, Front, Host, disk_of, read, read_front, read_image, write};
 use machine::BootFault;
 use std::alloc::Global;
 use std::io::Write;

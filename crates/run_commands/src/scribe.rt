@@ -4,7 +4,7 @@ ghost use Rattle.std.specs.Prelude.{IsErr, IsSome, None, [], false, ◌≡◌};
 
 use arrayvec::ArrayVec;
 use events::{Record, Row};
-use hosts::{Failure, Host, append, write};
+use host::{Failure, Host, append, write};
 use std::alloc::Global;
 
 /// The most events of a line.

@@ -11,7 +11,7 @@ use crate::runs::{read_run, script_of};
 use crate::telling::{Both, Crier, Ended, Teller, looks_on, outcome_of, status_of, tell_kept};
 use blockdev::MemDisk;
 use commandline::{Flat, Run, Telling};
-use hosts::{Failure, Host, Screen, disk_of, tell};
+use host::{Failure, Host, Screen, disk_of, tell};
 use std::io::Write;
 use symbolizer::Symbolizer;
 

@@ -8,7 +8,7 @@ use blockdev::BlockDev;
 use commandline::Live;
 use driver::{Given, MOST_KEYS, Mood, Terminal};
 use events::{Record, Row};
-use hosts::{Failure, Host, Screen, Why, append};
+use host::{Failure, Host, Screen, Why, append};
 use line_editor::{Editor, Keys};
 use machine::{Machine, ProcessState, Seen};
 use std::alloc::Global;

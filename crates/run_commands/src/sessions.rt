@@ -13,7 +13,7 @@ use crate::telling::Crier;
 use blockdev::{BlockDev, MemDisk};
 use commandline::Live;
 use driver::{Driver, Terminal, Watch};
-use hosts::{End, Failure, Front, Host, Screen, disk_of, read_image, tell, write};
+use host::{End, Failure, Front, Host, Screen, disk_of, read_image, tell, write};
 use machine::{Machine, boot};
 use std::alloc::Global;
 use std::io::Write;

@@ -7,7 +7,7 @@ use crate::progress::{Aside, Meter};
 use blockdev::BlockDev;
 use commandline::Telling;
 use driver::{Detail, Watch};
-use hosts::{End, Failure, Host, Screen, write};
+use host::{End, Failure, Host, Screen, write};
 use machine::{Halt, Machine};
 use reports::{Fallen, FaultLine, Looked, Outcome, PlayEnd, Reporter, Told, Wanted};
 use std::alloc::{AllocError, Global};

@@ -1,7 +1,7 @@
 //! Programs of a few words, each run to its last: the fault that is predicted is the one that is raised.
 use crate::disks::{Whole, expect_row, flat};
-use causes::{Fault, fault_of};
 use machine::Halt;
+use next_fault::{Fault, fault_of};
 use std::alloc::Global;
 use unixmodel::event::Event;
 use unixmodel::trap::{Cause, Trap};

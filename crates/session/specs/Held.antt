@@ -1,6 +1,6 @@
 -- What processes hold and wait for, and why their next instructions fault, as a session has it in numbers.
 use Rattle.std.specs.Prelude.{List, MatchOption, None, Option, Some, false, length, option_and_then, option_map, ℕ, ◌≡◌}
-use Rattle.causes.specs.Causes.{fault_shown}
+use Rattle.next_fault.specs.Causes.{fault_shown}
 use Rattle.kernel.specs.Shows.{descriptors_on}
 use Rattle.machine.specs.Holdings.{IsOfKind, file_told, pending_in}
 use Rattle.machine.specs.View.{View}

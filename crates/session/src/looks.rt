@@ -10,8 +10,8 @@ use crate::held::{FaultTold, OpenedTold, WaitTold, cause, file_of, open_numbers,
 use crate::session::Session;
 use crate::told::{ProcessTold, told};
 use blockdev::MemDisk;
-use causes::fault_of;
 use machine::{Machine, Perm};
+use next_fault::fault_of;
 use sv39::Tlb;
 
 /// Copies the front of some bytes, as many as there is room for, and returns how many.

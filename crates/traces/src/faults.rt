@@ -1,6 +1,6 @@
 //! Faults in words.
 
-use causes::{Fault, Why};
+use next_fault::{Fault, Why};
 use tracetext::lines::{Detail, FaultText};
 use unixmodel::trap::Cause;
 

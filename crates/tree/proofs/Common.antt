@@ -27,11 +27,11 @@ pub use Rattle.inode.specs.declared.InodeFault.TheVariants.{PastEnd, TooLong}
 pub use Rattle.inode.specs.declared.InodeStat.{InodeStat}
 pub use Rattle.layout.specs.Image.{index_for, RawNode, taken_for}
 pub use Rattle.layout.specs.declared.Geometry.{Geometry}
-pub use Rattle.names.proofs.Finding.{free-number, IsFree, position-None, slot-set, find-used, follow-used, lookup-used}
-pub use Rattle.names.proofs.Finding.{numbers-used, start-used, is_part, is_plain, spot-parts}
-pub use Rattle.names.proofs.Quiet.{changed-same, emptied-is, kept-gone, kept-here, kept-none, length-kept, releases}
-pub use Rattle.names.proofs.Quiet.{writes-over}
-pub use Rattle.names.specs.Rules.{KeepsTree}
+pub use Rattle.name_rules.proofs.Finding.{free-number, IsFree, position-None, slot-set, find-used, follow-used}
+pub use Rattle.name_rules.proofs.Finding.{is_part, is_plain, lookup-used, numbers-used, spot-parts, start-used}
+pub use Rattle.name_rules.proofs.Quiet.{changed-same, emptied-is, kept-gone, kept-here, kept-none, length-kept}
+pub use Rattle.name_rules.proofs.Quiet.{releases, writes-over}
+pub use Rattle.name_rules.specs.Rules.{KeepsTree}
 unfoldable pub use Rattle.unixmodel.specs.Counts.{blocks_of}
 pub use Rattle.unixmodel.specs.Files.{blocks_for, change_node, clear, dot, dot_dot, entry_number, Files, follow}
 pub use Rattle.unixmodel.specs.Files.{free_slot, has_name, is_directory, is_dot_name, kind_of, links_of, live_places}

@@ -11,9 +11,9 @@ use Rattle.tree.proofs.Common.{cond-false, cond-true, lt-ltb, or_from, or_left, 
 use Rattle.tree.proofs.Common.{replicate, inl, inr, cases_eq, ext_get_or, get_or-set_other, get_or-set_same, length-set}
 use Rattle.tree.proofs.Common.{kept-gone, kept-here, kept-none, length-kept, unheld, InodeStat, TellsAny, Serves}
 use Rattle.unixmodel.specs.Reap.{kept}
-use Rattle.names.proofs.Quiet.{is_held, IsSettled, kept-but, loses-reaped}
-use Rattle.names.specs.Changes.{Changed, Loses, shape}
-use Rattle.names.proofs.Changing.{keeps-linked, keeps-made, keeps-made-directory, IsNewFile, keeps-unlinked}
+use Rattle.name_rules.proofs.Quiet.{is_held, IsSettled, kept-but, loses-reaped}
+use Rattle.name_rules.specs.Changes.{Changed, Loses, shape}
+use Rattle.name_rules.proofs.Changing.{keeps-linked, keeps-made, keeps-made-directory, IsNewFile, keeps-unlinked}
 use Rattle.tree.specs.declared.making.Leaf.TheVariants as leaf
 use Rattle.tree.specs.declared.TreeFault.TheVariants.{Device}
 use Rattle.tree.specs.Tree.{has_failed, is_device}

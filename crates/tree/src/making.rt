@@ -1,7 +1,7 @@
 //! New nodes, and new names of nodes.
 
 ghost use Rattle.std.specs.Prelude.{◌≡◌, ◌≢◌, ◌+◌, ◌<◌, ◌≤◌, All, IsSome, None, Some, [], false, ℕ};
-ghost use Rattle.names.specs.Rules.{KeepsTree};
+ghost use Rattle.name_rules.specs.Rules.{KeepsTree};
 ghost use Rattle.tree.specs.Entering.{fresh};
 ghost use Rattle.tree.specs.Leaves.{leaf_node};
 ghost use Rattle.tree.specs.Steps.{Turns};

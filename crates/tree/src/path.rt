@@ -2,7 +2,7 @@
 
 ghost use Rattle.std.specs.Prelude.{◌≡◌, ◌<◌, IfNone, IfSome, IsSome, None, Some, [], ◌∷◌, false, length, not};
 ghost use Rattle.std.specs.Prelude.{position, ◌==◌};
-ghost use Rattle.names.specs.Rules.{KeepsTree};
+ghost use Rattle.name_rules.specs.Rules.{KeepsTree};
 ghost use Rattle.tree.specs.Steps.{Reads};
 ghost use Rattle.tree.specs.Tree.{Looks};
 ghost use Rattle.unixmodel.specs.Files.{find, parts, slot, start_of};

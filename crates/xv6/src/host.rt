@@ -2,7 +2,7 @@
 ghost use Rattle.std.specs.Prelude.{◌≤◌, IfOk, IfSome, length, vec_len};
 
 use commands::{Front, Host, HostFault, InUse, Screen, Why};
-use outputs::Holding;
+use safe_files::Holding;
 use std::alloc::AllocError;
 use std::fmt;
 use std::fs::{self, File, OpenFile, OpenOptions};
@@ -209,7 +209,7 @@ impl<'a, R: Files<File = File> + Clock + Input + Eprint + AllocGlobal> Host for 
     }
 
     fn write(&mut self, name: &str, bytes: &[u8]) -> Result<(), HostFault> {
-        let done = outputs::write(self.rt, name, bytes);
+        let done = safe_files::write(self.rt, name, bytes);
         self.told(done)
     }
 
@@ -234,12 +234,12 @@ impl<'a, R: Files<File = File> + Clock + Input + Eprint + AllocGlobal> Host for 
     }
 
     fn is_same(&mut self, one: &str, other: &str) -> bool {
-        one == other || outputs::is_same(self.rt, one, other)
+        one == other || safe_files::is_same(self.rt, one, other)
     }
 
     fn hold(&mut self, name: &str) -> Result<(), InUse> {
         for _ in 0..MOST_TRIES {
-            match outputs::hold(self.rt, name) {
+            match safe_files::hold(self.rt, name) {
                 Holding::Held(file) => {
                     self.held = Some(file);
                     return Ok(());

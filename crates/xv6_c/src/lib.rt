@@ -21,6 +21,7 @@ ghost use Rattle.xv6_c.specs.Puts.{Puts};
 ghost use Rattle.xv6_c.specs.Tells.{Boots, DigestTells, NextTells, Numbers, PageTells, PutsDescriptor, PutsPipe};
 ghost use Rattle.xv6_c.specs.Tells.{PutsWalk, ReadTells, RefusesBy, RunsTo, SaveTells, StatTells};
 
+mod boxed;
 mod images;
 mod numbers;
 mod opens;

@@ -3,8 +3,8 @@ ghost use Rattle.std.specs.Prelude.{◌≡◌};
 ghost use Rattle.std.specs.Borrow.{sem};
 ghost use Rattle.xv6_c.specs.Follows.{sealed_follows};
 
+use crate::boxed::Parts;
 use crate::sealed::Sealed;
-use boxed::Parts;
 use session::Session;
 use std::alloc::Global;
 

@@ -4,7 +4,7 @@ use blockdev::MemDisk;
 use commandline::{Telling, Trace};
 use driver::Watch;
 use events::parse_play;
-use hosts::{Failure, Front, Host, Screen, append, disk_of, tell, write};
+use host::{Failure, Front, Host, Screen, append, disk_of, tell, write};
 use run_commands::{
     Both, Ended, Finish, Gauge, Performed, Piece, Setting, Show, Teller, keep, looks_on,
     perform_watched, pid_of, plays, read_run, script_of, scripted, symbolizer_of,

@@ -3,8 +3,8 @@
 use blockdev::MemDisk;
 use commandline::Job;
 use explanations::{Topic, meaning, nearest};
-use hosts::{Failure, Host, disk_of, read_image};
-use listings::{Missing, OpeningFault, ProgramFault, first_missing, read_file, segments};
+use host::{Failure, Host, disk_of, read_image};
+use image_files::{Missing, OpeningFault, ProgramFault, first_missing, read_file, segments};
 use std::alloc::{AllocError, Global};
 use tree::TreeFault;
 

@@ -2,7 +2,7 @@
 ghost use Rattle.std.specs.Prelude.{◌≡◌, ◌≢◌, All, IsSome, None, OnOk, Some, false, length};
 ghost use Rattle.std.specs.Bool.{OnTrue};
 ghost use Rattle.kernel.specs.Disk.{FilesDisk, ReadsDisk, directory_at, with_tree};
-ghost use Rattle.names.specs.Rules.{KeepsTree};
+ghost use Rattle.name_rules.specs.Rules.{KeepsTree};
 ghost use Rattle.tree.specs.Calls.{IsPart, MakesDirectory, MakesLink, MakesNode, TakesName};
 ghost use Rattle.tree.specs.Leaves.{leaf_node};
 ghost use Rattle.tree.specs.Telling.{Tells, TellsAny, minor_of};

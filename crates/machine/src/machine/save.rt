@@ -3,7 +3,7 @@
 ghost use Rattle.std.specs.Prelude.{◌≡◌, IfOk, OnErr, false};
 ghost use Rattle.imagerules.specs.Content.{image_of};
 ghost use Rattle.machine.specs.Saved.{LosesDevice};
-ghost use Rattle.names.specs.Rules.{KeepsTree};
+ghost use Rattle.name_rules.specs.Rules.{KeepsTree};
 ghost use Rattle.tree.specs.Holding.{unheld};
 ghost use Rattle.unixmodel.specs.Image.{Denotes};
 

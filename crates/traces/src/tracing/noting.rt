@@ -4,12 +4,12 @@ use super::Tracer;
 use crate::handed::{arguments_asked, handed_of};
 use crate::lanes::Lane;
 use blockdev::BlockDev;
-use causes::{Fault, Named};
 use jsonrows::{
     BeginRow, CallRow, EndRow, EndedRow, ExitRow, FaultRow, Handed, How, Kind, Latin, Printed,
     TurnRow, VERSION, WaitRow, WaitsRow, descriptor_rows, descriptors_of, line, waits_row,
 };
 use machine::{Machine, Seen};
+use next_fault::{Fault, Named};
 use serde::Serialize;
 use std::alloc::AllocError;
 use std::mem;

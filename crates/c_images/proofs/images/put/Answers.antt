@@ -1,6 +1,6 @@
 use Rattle.std.proofs.Common.{Global, length, Vec, ℕ, ◌≡◌}
 use Rattle.c_images.proofs.Both.{if-both}
-use Rattle.listings.specs.Opened.{IsPut}
+use Rattle.image_files.specs.Opened.{IsPut}
 use Rattle.c_images.proofs.images.put.Goals as goal
 
 pub returns : goal.returns

@@ -1,5 +1,5 @@
 use Rattle.std.proofs.Common.{◌≡◌, false}
-use Rattle.names.specs.Rules.{KeepsTree}
+use Rattle.name_rules.specs.Rules.{KeepsTree}
 use Rattle.disk_tests.proofs.named.first_wrong.Given as goal
 
 -- no access has failed, and the files keep the rules of names

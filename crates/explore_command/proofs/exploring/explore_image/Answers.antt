@@ -1,6 +1,6 @@
 use Rattle.explore_command.proofs.Finding.{explored-from}
 use Rattle.explore_command.proofs.exploring.explore_image.Goals as goal
-use Rattle.hosts.specs.Fronts.{IsWhole}
+use Rattle.host.specs.Fronts.{IsWhole}
 
 pub returns : goal.returns
 returns g c = explored-from c.args.image.bytes.items c.args.texts.now.keys.items c.args.words.now

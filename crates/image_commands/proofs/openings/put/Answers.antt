@@ -1,6 +1,6 @@
 use Rattle.std.proofs.Common.{subst, ◌∙◌}
 use Rattle.std.proofs.lemmas.Result.{on_ok_weaker}
-use Rattle.hosts.specs.Files.{HoldsFront}
+use Rattle.host.specs.Files.{HoldsFront}
 use Rattle.image_commands.specs.Handed.{HoldsDisk}
 use Rattle.image_commands.proofs.Handed.{put-as, puts-in, writes-as}
 use Rattle.image_commands.proofs.openings.put.Goals as goal

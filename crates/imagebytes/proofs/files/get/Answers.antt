@@ -1,7 +1,7 @@
 use Rattle.std.proofs.Common.{subst}
 use Rattle.std.specs.Prelude.{IfOk}
 use Rattle.imagebytes.proofs.Disks.{image-is}
-use Rattle.listings.specs.Opened.{IsFileOf}
+use Rattle.image_files.specs.Opened.{IsFileOf}
 use Rattle.imagebytes.proofs.files.get.Goals as goal
 
 pub returns : goal.returns

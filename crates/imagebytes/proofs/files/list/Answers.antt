@@ -1,6 +1,6 @@
 use Rattle.std.proofs.Common.{subst}
 use Rattle.imagebytes.proofs.Disks.{image-is}
-use Rattle.listings.specs.Listed.{IsDirectoryOf}
+use Rattle.image_files.specs.Listed.{IsDirectoryOf}
 use Rattle.imagebytes.proofs.files.list.Goals as goal
 
 pub returns : goal.returns

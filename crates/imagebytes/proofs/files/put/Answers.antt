@@ -2,7 +2,7 @@ use Rattle.std.proofs.Common.{ap, arith, length, subst, sym}
 use Rattle.blockdev.specs.Blocks.{blocks_of}
 use Rattle.imagebytes.proofs.Disks.{image-is}
 use Rattle.imagerules.specs.Content.{image_of}
-use Rattle.listings.specs.Opened.{IsPut}
+use Rattle.image_files.specs.Opened.{IsPut}
 use Rattle.imagebytes.proofs.files.put.Goals as goal
 
 pub returns-clause-put : goal.returns-clause-put

@@ -1,7 +1,7 @@
 use Rattle.machine.proofs.Common.{ap, AreLinked, arith, Denotes, FileTree, image_of, is_err, KeepsTree, le_trans, OnOk}
 use Rattle.machine.proofs.Common.{Rises, subst, sym, ◌∙◌, ◌≤◌}
 use Rattle.calls.proofs.Acts.{where-err}
-use Rattle.names.proofs.Quiet.{leaves, left-linked}
+use Rattle.name_rules.proofs.Quiet.{leaves, left-linked}
 use Rattle.machine.proofs.machine.save.give_up.Goals as goal
 
 pub unmount-disk-requires-clause-rules : goal.unmount-disk-requires-clause-rules

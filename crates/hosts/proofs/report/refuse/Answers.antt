@@ -1,6 +1,0 @@
-use Rattle.std.proofs.Common.{subst}
-use Rattle.hosts.specs.Reports.{IsRefusalStatus}
-use Rattle.hosts.proofs.report.refuse.Goals as goal
-
-pub returns : goal.returns
-returns g c = subst (λ k. IsRefusalStatus k c.refuse_as.result) c.kind.ensures c.refuse_as.ensures

@@ -1,5 +1,0 @@
-use Rattle.std.proofs.Common.{◌≡◌, false}
-use Rattle.listings.proofs.directory.write_entries.Given as goal
-
-abbrev pub invariant-loop-place : goal.invariant-loop-place
-invariant-loop-place g l = l.tree.failed ≡ false

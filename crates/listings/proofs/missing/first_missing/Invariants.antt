@@ -1,5 +1,0 @@
-use Rattle.listings.specs.Listed.{IsAtRest}
-use Rattle.listings.proofs.missing.first_missing.Given as goal
-
-abbrev pub invariant-loop-names : goal.invariant-loop-names
-invariant-loop-names g l = IsAtRest l.tree

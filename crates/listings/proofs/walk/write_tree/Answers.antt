@@ -1,8 +1,0 @@
-use Rattle.listings.proofs.Entries.{is-directory}
-use Rattle.listings.proofs.walk.write_tree.Goals as goal
-
-pub returns : goal.returns
-returns g c =
-    let at = c.in_ok-directory in
-    is-directory c.args.path.now at.directory c.in_ok-tree.ensures.mounted at.ensures.found at.ensures.same
-    at.ensures.folder

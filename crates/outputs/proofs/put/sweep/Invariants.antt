@@ -1,6 +1,0 @@
-use Rattle.outputs.specs.Steps.{Known, Sweeps}
-use Rattle.outputs.proofs.put.sweep.Given as goal
-
--- nothing is gone so far but what programs left
-abbrev pub invariant-loop-number : goal.invariant-loop-number
-invariant-loop-number g l = Known (Sweeps l.fn.path) (g.F.Folder.held l.fn.folder) (g.F.Folder.held l.folder)
