@@ -1,25 +1,11 @@
 -- Events that are noted one stretch after the other.
-use Rattle.std.proofs.Common.{ap, arith, length, List, Option, replicate, subst, sym, take, take-append-drop, ℕ}
-use Rattle.std.proofs.Common.{◌+◌, ◌++◌, ◌∙◌, ◌≡◌, ◌≤◌, drop}
-use Rattle.std.proofs.Math.Seq.{take-append-add}
-use Rattle.std.proofs.lemmas.List.{length-replicate, length-take-le, take-append-le, take-replicate, take_all}
+use Rattle.std.proofs.Common.{length, List, Option, replicate, subst, take, ℕ, ◌+◌, ◌≡◌, ◌≤◌}
+use Rattle.std.proofs.lemmas.List.{take_all}
 use Rattle.events.proofs.Recording.{records-then}
 use Rattle.events.specs.Records.{Kept, Records}
+use Rattle.stretches.proofs.Ahead.{ahead-take}
 use Rattle.stretches.specs.Stretches.{IsAhead}
 use Rattle.unixmodel.specs.declared.event.Event.{Event}
-
--- the next k events, where they are the same
-ahead-take : (events : List Event) (at k times : ℕ) (e : Event) → IsAhead events at (e, times) → k ≤ times
-    → take (at + k) events ≡ take at events ++ replicate k e
-ahead-take events at k times e ahead few =
-    let front : length (take at events) ≡ at = let w = ahead.within in length-take-le at events (omega (arith, w)) in
-    ap (take (at + k)) (sym (take-append-drop at events))
-    ∙ ap (λ n. take (n + k) (take at events ++ drop at events)) (sym front)
-    ∙ take-append-add (take at events) (drop at events) k
-    ∙ ap (λ es. take at events ++ es)
-    (ap (take k) ahead.next
-    ∙ take-append-le k (replicate times e) (drop (at + times) events) (rw (length-replicate times e) few)
-    ∙ take-replicate k times e few)
 
 -- the next k events are noted, too
 pub noted-on : (events : List Event) (at next k times : ℕ) (e : Event) (a b c : Option Kept)

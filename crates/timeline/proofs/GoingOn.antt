@@ -1,10 +1,8 @@
 -- How the states along a line follow one another.
-use Rattle.std.proofs.Common.{ap, append_assoc, arith, below_more, drop, Err, false, inl, inr, length, List}
-use Rattle.std.proofs.Common.{None, Ok, Option, refl, replicate, Result, Some, subst, sym, take, take-append-drop}
+use Rattle.std.proofs.Common.{ap, append_assoc, arith, below_more, drop, Err, false, inl, inr, List}
+use Rattle.std.proofs.Common.{None, Ok, Option, refl, replicate, Result, Some, subst, sym, take}
 use Rattle.std.proofs.Common.{true, ℕ, ℤ, ◌+◌, ◌++◌, ◌-◌, ◌<◌, ◌∙◌, ◌≡◌, ◌≤◌}
-use Rattle.std.proofs.Math.Seq.{take-append-add}
-use Rattle.std.proofs.lemmas.List.{drop-drop, drop_at, length-replicate, length-take-le, replicate-append-replicate}
-use Rattle.std.proofs.lemmas.List.{take-append-le, take-replicate}
+use Rattle.std.proofs.lemmas.List.{drop-drop, drop_at, length-replicate, replicate-append-replicate}
 use Rattle.calls.proofs.Pieces.{run-append, then_runs}
 use Rattle.calls.specs.Computing.{Computes, after_steps, computes}
 use Rattle.calls.specs.declared.halt.Halt.{Halt}
@@ -12,6 +10,7 @@ use Rattle.calls.specs.declared.halt.Halt.TheVariants.{Console, Device, Halted, 
 use Rattle.machine.specs.Gives.{RunGives}
 use Rattle.machine.specs.View.{IsUp, View}
 use Rattle.std.specs.Prelude.{Bool, is_ok, is_some, not, ◌⊎◌}
+use Rattle.stretches.proofs.Ahead.{ahead-take}
 use Rattle.stretches.specs.Stretches.{IsAhead}
 use Rattle.timeline.proofs.Beside.{beside_steps, none-yet}
 use Rattle.timeline.specs.Inside.{IsAt}
@@ -184,22 +183,9 @@ module _ (start : State) (events : List Event) (goes : start.halted ≡ None) wh
       ap (λ es. (run start es).state) is ∙ ap (λ (a : After). a.state) (run-append (take n events) more start goes)
       ∙ then-on more (run start (take n events)) (run start (take n events)).state.halted
 
-  -- the next k events, where they are known
-  ahead-take : (at k times : ℕ) (e : Event) → IsAhead events at (e, times) → k ≤ times
-      → take (at + k) events ≡ take at events ++ replicate k e
-  ahead-take at k times e ahead few =
-      let front : length (take at events) ≡ at = let w = ahead.within in length-take-le at events (omega (arith, w)) in
-      ap (take (at + k)) (sym (take-append-drop at events))
-      ∙ ap (λ n. take (n + k) (take at events ++ drop at events)) (sym front)
-      ∙ take-append-add (take at events) (drop at events) k
-      ∙ ap (λ es. take at events ++ es)
-      (ap (take k) ahead.next
-      ∙ take-append-le k (replicate times e) (drop (at + times) events) (rw (length-replicate times e) few)
-      ∙ take-replicate k times e few)
-
   pub ahead-on : (at k times : ℕ) (e : Event) → IsAhead events at (e, times) → k ≤ times
       → state_at start events (at + k) ≡ go_on (state_at start events at) (replicate k e)
-  ahead-on at k times e ahead few = on-by at (at + k) (replicate k e) (ahead-take at k times e ahead few)
+  ahead-on at k times e ahead few = on-by at (at + k) (replicate k e) (ahead-take events at k times e ahead few)
 
   -- k events on
   pub is-at-on : {m n : View} (at k times : ℕ) (e : Event) → IsAt start events at m → IsAhead events at (e, times)
