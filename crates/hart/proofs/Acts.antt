@@ -1,5 +1,7 @@
 -- Operations without an access, and those with one.
-use Rattle.hart.proofs.Common.{Ram, Access, Acts, Answers, ap, Bool, Cause, Effect, Err, false, given, Hart, Held}
+use Rattle.hart.proofs.Common.{Ram, Access, Acts, Answers, ap, Behind, Bool, Cause, Effect, Err, false, given, Hart}
+use Rattle.hart.proofs.Common.{At, Held, KeepsWords, Operates, seen_in, Stored, ◌==◌}
+use Rattle.ram.specs.declared.FrameNo.{FrameNo}
 use Rattle.hart.proofs.Common.{if◌then◌else◌, inl, IsAnswer, IsKept, Leaves, length, List, Next, None, Ok, Op, op_by}
 use Rattle.hart.proofs.Common.{Option, option_map, Page, place_in, refl, seen, Sight, Stop, stored, sym, trap, true}
 use Rattle.hart.proofs.Common.{Turns, ℕ, ◌≡◌}
@@ -34,6 +36,31 @@ acts-answered : {held held' : Held} {meaning : Sight → Effect} {next : Next} {
 acts-answered {held} {old} {ram} {access} {address} o is kept count does =
     let one = one-answer held ram is in
     record { answers = one.0; allowed = one.1; does = does one.0 one.2; kept = kept; count = count }
+
+-- nothing is stored
+reads-only : {held held' : Held} {meaning : Sight → Effect} {next : Next} {pc : ℕ} {old new : Hart} {ram : Ram}
+    → Acts held held' meaning next pc old new ram ram → Operates held held' meaning next pc old new ram ram
+reads-only acts = record { acts = acts; only = λ f k other. refl }
+
+-- a store to another frame goes on as other operations do
+module _ {held held' : Held} {meaning : Sight → Effect} {pc : ℕ} {old new : Hart} {ram ram' : Ram} where
+  acts-if : {g : FrameNo} {part : ℕ} (b : Bool) → Acts held held' meaning (Stored g part) pc old new ram ram'
+      → Acts held held' meaning (if b then Stored g part else Behind) pc old new ram ram'
+  acts-if true acts = acts
+  acts-if false acts = record {
+    answers = acts.answers;
+    allowed = acts.allowed;
+    does = acts.does;
+    kept = acts.kept;
+    count = acts.count;
+  }
+
+  pub acts-in : (next : Next) (f : ℕ) → Acts held held' meaning next pc old new ram ram'
+      → Acts held held' meaning (seen_in next f) pc old new ram ram'
+  acts-in Behind f acts = acts
+  acts-in (Stored g part) f acts = acts-if (g.0 == f) acts
+  acts-in (At to) f acts = acts
+  acts-in (Stop t) f acts = acts
 
 -- ---- operations without an access
 
@@ -75,28 +102,30 @@ op_by-without _ regs pc see h = refl
 
 pub op_acts : (held : Held) (o : Op) (next : Next) (pc : ℕ) (old new : Hart) (ram : Ram) → has_no_access o ≡ true
     → Turns (op_by o old.registers pc blind) next pc old new
-    → Acts held held (op_by o old.registers pc) next pc old new ram ram
+    → Operates held held (op_by o old.registers pc) next pc old new ram ram
 op_acts held o next pc old new ram none h =
-    acts-unanswered (λ answers.
+    reads-only (acts-unanswered (λ answers.
     rw (op_by-without o old.registers pc (seen ram answers) none)
-    (turned-leaves (op_by o old.registers pc blind) answers next pc old new ram h))
+    (turned-leaves (op_by o old.registers pc blind) answers next pc old new ram h)))
 
 -- ---- loads and stores: at a misaligned address, where nothing is found, and in a frame
 
 pub acts-odd : {held : Held} {ram : Ram} {hart : Hart} {even : Bool} (found : Option Page → Effect) (access : Access)
     {cause : Cause} {address pc : ℕ} → even ≡ false
-    → Acts held held (λ see. if even then found (see access address) else trap cause address)
+    → Operates held held (λ see. if even then found (see access address) else trap cause address)
     (Stop (record { cause = cause; address = address })) pc hart hart ram ram
-acts-odd {held} {ram} {hart} found access {pc} odd = acts-unanswered (λ answers. rw odd (refl, refl, refl))
+acts-odd {held} {ram} {hart} found access {pc} odd = reads-only (acts-unanswered (λ answers. rw odd (refl, refl, refl)))
 
 pub acts-even : {held held' : Held} {ram ram' : Ram} {old new : Hart} {next : Next} {even : Bool}
     (found : Option Page → Effect) (access : Access) (cause : Cause) {address pc : ℕ} (o : Option ℕ) → even ≡ true
     → IsAnswer held ram old.root.0 address access (option_map (place_in address) o) → IsKept held held' ram old.root.0
-    → length ram' ≡ length ram
+    → length ram' ≡ length ram → ((f : ℕ) → KeepsWords (seen_in next f) f ram ram')
     → ((answers : Answers) → answers access address ≡ o
     → Leaves (found (option_map (given ram) o)) answers next pc old new ram ram')
-    → Acts held held' (λ see. if even then found (see access address) else trap cause address) next pc old new ram
+    → Operates held held' (λ see. if even then found (see access address) else trap cause address) next pc old new ram
     ram'
-acts-even {held} {held'} {ram} {ram'} {old} {new} {next} found access cause {address} {pc} o aligned is kept count does
-    =
-    acts-answered o is kept count (λ answers same. rw (aligned, same) (does answers same))
+acts-even {held} {held'} {ram} {ram'} {old} {new} {next} found access cause {address} {pc} o aligned is kept count only
+    does = record {
+      acts = acts-answered o is kept count (λ answers same. rw (aligned, same) (does answers same));
+      only = only;
+    }

@@ -5,10 +5,11 @@ pub use Rattle.std.proofs.Common.{length, length-set, List, None, Ok, Option, re
 pub use Rattle.std.proofs.Common.{slice_range, slice_set, Some, subst, suc, sym, take, true, zero, ℕ, ◌∙◌, ◌∷◌, ◌≡◌}
 pub use Rattle.std.proofs.Common.{◌≢◌, ◌≤◌, ◌⊎◌}
 pub use Rattle.std.proofs.lemmas.Bool.{and_parts, cases_eq, cases_lt, eq-eqb, eqb-true, ne_eqb}
+pub use Rattle.ram.proofs.MemoryLemmas.{word_of-frame, word_of-put_beside}
 pub use Rattle.std.proofs.lemmas.Option.{get_or_from_slice_get, slice_get-get_or, slice_get-map, slice_get_within}
 pub use Rattle.std.specs.Int.{byte_at, bytes_low_first, cast_signed, w128, w64}
-pub use Rattle.std.specs.Prelude.{◌*ℤ◌, FitsSigned, IfSome, if◌then◌else◌, option_map, pos, slice_get, slice_index}
-pub use Rattle.std.specs.Prelude.{unsigned_abs}
+pub use Rattle.std.specs.Prelude.{◌*ℤ◌, FitsSigned, IfNone, IfSome, if◌then◌else◌, option_map, pos, slice_get}
+pub use Rattle.std.specs.Prelude.{slice_index, unsigned_abs}
 pub use Rattle.ram.specs.Memory.{frame_of, IsMemory}
 unfoldable pub use Rattle.ram.specs.Memory.{put, put_bytes, word_bytes, word_of}
 pub use Rattle.sv39.proofs.WalkLemmas.{walk_page-inside}
@@ -34,20 +35,21 @@ pub use Rattle.unixmodel.specs.declared.trap.Cause.TheVariants.{IllegalInstructi
 pub use Rattle.unixmodel.specs.declared.trap.Cause.TheVariants.{LoadMisaligned, LoadPageFault, StoreMisaligned}
 pub use Rattle.unixmodel.specs.declared.trap.Cause.TheVariants.{StorePageFault}
 pub use Rattle.unixmodel.specs.declared.trap.Trap.{Trap}
-pub use Rattle.hart.specs.Acts.{Acts, Leaves, pc_after, trap_of, Turns}
+pub use Rattle.hart.specs.Acts.{Acts, goes_to, KeepsWords, Leaves, Operates, part_of, pc_after, seen_in, trap_of, Turns}
 pub use Rattle.hart.specs.Answered.{Answers, AreAllowed, fetched_by, given, HasEffect, IsStep, load_by, put_at, seen}
 pub use Rattle.hart.specs.Answered.{Sight, store_by, stored, word_by}
 unfoldable pub use Rattle.hart.specs.Answered.{act_by, cycle_by}
+pub use Rattle.hart.specs.Checked.{AreChecked, AreNow}
 pub use Rattle.hart.specs.Changes.{changed, IsAlone, IsSound, IsStore, put_in, Stores, WritesOnly, WritesPage}
 pub use Rattle.hart.specs.Follows.{Follows}
 pub use Rattle.hart.specs.Operations.{IsOp}
 unfoldable pub use Rattle.hart.specs.Operations.{op_by}
 pub use Rattle.hart.specs.Stops.{AreFree, EndsAt, IsBehind, IsClear, IsFree, IsPast, is_stop, pc_at}
-pub use Rattle.hart.specs.Runs.{Goes, GoesOn, Point, point_at, point_of, StaysWhole, word_in}
+pub use Rattle.hart.specs.Runs.{Goes, GoesOn, MovesOn, Point, point_at, point_of, StaysWhole, word_in}
 unfoldable pub use Rattle.hart.specs.Runs.{Reaches, RunsTo}
 pub use Rattle.hart.specs.Sizes.{IsSize}
 pub use Rattle.hart.specs.declared.act.Next.{Next}
-pub use Rattle.hart.specs.declared.act.Next.TheVariants.{At, Behind, Stop}
+pub use Rattle.hart.specs.declared.act.Next.TheVariants.{At, Behind, Stop, Stored}
 pub use Rattle.hart.specs.declared.operation.Op.{Op}
 pub use Rattle.hart.specs.declared.state.Hart.{Hart}
 pub use Rattle.hart.proofs.Ram.{Ram}

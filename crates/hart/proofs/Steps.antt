@@ -1,5 +1,6 @@
 -- Steps whose accesses a translator serves.
-use Rattle.hart.proofs.Common.{Ram, Access, Acts, allowed, At, Behind, Leaves, Next, pc_after, Stop, trap_of, word_in}
+use Rattle.hart.proofs.Common.{Ram, Access, Acts, allowed, At, Behind, Leaves, Next, pc_after, Stop, Stored, trap_of}
+use Rattle.hart.proofs.Common.{word_in}
 use Rattle.hart.proofs.Common.{ap, cond, false, Held, HoldsInside, inl, inr, IsKept, List, Mapped, memory_of, None}
 use Rattle.hart.proofs.Common.{Option, option_map, page_for, page_in, permits, permitted, refl, slice_get}
 use Rattle.hart.proofs.Common.{slice_get-map, Some, true, walk_page-inside, ℕ, ◌/◌, ◌∙◌, ◌≡◌, act, act_by, act_word}
@@ -176,20 +177,32 @@ leaves-effect : (effect : Effect) (at : ℕ) (o : Option ℕ) (answers : Answers
     → HasEffect effect (with_answer Fetch at o answers) (trap_of next) old new ram ram'
 leaves-effect (Ok d) at o answers Behind pc old hart new ram ram' h a =
     (refl, a.0 ∙ h.1, a.1 ∙ h.2, a.2 ∙ h.3, h.4 ∙ sym (stored-fetch ram at o answers d.change))
+leaves-effect (Ok d) at o answers (Stored f part) pc old hart new ram ram' h a =
+    (refl, a.0 ∙ h.1, a.1 ∙ h.2, a.2 ∙ h.3, h.4 ∙ sym (stored-fetch ram at o answers d.change))
 leaves-effect (Ok d) at o answers (At to) pc old hart new ram ram' h a =
     (refl, a.0 ∙ h.1, a.1 ∙ h.2, a.2 ∙ h.3, h.4 ∙ sym (stored-fetch ram at o answers d.change))
 leaves-effect (Err t) at o answers (Stop s) pc old hart new ram ram' h a = (h.0, a ∙ h.1, h.2)
 leaves-effect (Ok d) at o answers (Stop s) pc old hart new ram ram' h a = absurd (cc h.0)
 leaves-effect (Err t) at o answers next pc old hart new ram ram' h a = absurd (cc h.0)
 
+pub arrives-on : (next : Next) (pc : ℕ) (hart new : Hart) → trap_of next ≡ None → new.registers ≡ hart.registers
+    → new.pc ≡ pc_after next pc → new.root ≡ hart.root → Arrives next pc hart new
+arrives-on (Stop t) pc hart new none registers at root = absurd (cc none)
+arrives-on _ pc hart new none registers at root = (registers, at, root)
+
+pub arrives-not : (next : Next) (pc : ℕ) (hart : Hart) {t : Trap} → trap_of next ≡ Some t → Arrives next pc hart hart
+arrives-not (Stop s) pc hart some = refl
+arrives-not _ pc hart some = absurd (cc some)
+
 -- the word that was fetched is done
 pub step-done : {held mid held' : Held} {ram ram' : Ram} {old hart new : Hart} (next : Next) (f : ℕ)
+    {result : Option Trap}
     → IsAnswer held ram old.root.0 old.pc Fetch (Some (place_in old.pc f)) → IsKept held mid ram old.root.0
     → Acts mid held' (word_by (instruction_of (word_in ram f old.pc)) old.registers old.pc) next old.pc old hart ram
-    ram' → Arrives next old.pc hart new
-    → IsStep held (cycle_by old.registers old.pc) (trap_of next) old new ram ram'
+    ram' → Arrives next old.pc hart new → trap_of next ≡ result
+    → IsStep held (cycle_by old.registers old.pc) result old new ram ram'
 unfolding cycle_by
-step-done {held} {ram} {ram'} {old} {hart} {new} next f is kept acts arrives =
+step-done {held} {ram} {ram'} {old} {hart} {new} next f is kept acts arrives stopped =
     let word : Option Instr = instruction_of (word_in ram f old.pc) in
     let before : AreAllowed held ram old.root.0 acts.answers =
     λ access address. answered-kept _ _ kept (acts.allowed access address) in
@@ -198,7 +211,7 @@ step-done {held} {ram} {ram'} {old} {hart} {new} next f is kept acts arrives =
     record {
       answers = with_answer Fetch old.pc (Some f) acts.answers;
       allowed = with_answer-allowed held ram old.pc (Some f) acts.answers before is;
-      does = rw (itself, word_by-fetch word old.registers old.pc old.pc ram (Some f) acts.answers)
+      does = rw (← stopped, itself, word_by-fetch word old.registers old.pc old.pc ram (Some f) acts.answers)
           (leaves-effect (word_by word old.registers old.pc (seen ram acts.answers)) old.pc (Some f) acts.answers next
           old.pc old hart new ram ram' acts.does arrives);
     }

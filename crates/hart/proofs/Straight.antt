@@ -7,7 +7,8 @@ use Rattle.hart.proofs.Common.{point_at, Reaches, refl, RunsTo, seen, Shows, Sig
 use Rattle.hart.proofs.Common.{trap, trap_of, walk_page-inside, word_by, word_in, ℕ, ◌/◌, ◌∙◌, ◌≡◌, [], arith, Behind}
 use Rattle.hart.proofs.Common.{GoesOn, IsOp, number, Op, op_by, pc_at, plus, point_of, slice_index_or, slice_range}
 use Rattle.hart.proofs.Common.{StaysWhole, word_of, ◌%◌, ◌*◌, ◌+◌, ◌-◌, ◌<◌, ◌^◌, ◌≤◌, ◌==◌, false, cases_lt, get_or}
-use Rattle.hart.proofs.Common.{length, ne_eqb, take, IsBehind, IsClear, IsFree, IsPast, is_stop}
+use Rattle.hart.proofs.Common.{length, ne_eqb, take, IsBehind, IsClear, IsFree, IsPast, is_stop, At, IfNone, IfSome}
+use Rattle.hart.proofs.Common.{goes_to, MovesOn, Stop, Stored}
 use Rattle.std.proofs.lemmas.List.Folds.{list_any_more}
 use Rattle.sv39.proofs.Placed.{coherent-kept, shows-coherent}
 use Rattle.hart.proofs.ChangeLemmas.{cycle-only, cycle-stores}
@@ -168,7 +169,7 @@ place-of j even small within e =
     let place = ap (λ x. x % 4096) e ∙ pc-place j even small within in
     (omega (arith, even, page), omega (arith, place))
 
-pc-next : (base k : ℕ) → plus (pc_at base k) 4 ≡ pc_at base (k + 1)
+pub pc-next : (base k : ℕ) → plus (pc_at base k) 4 ≡ pc_at base (k + 1)
 pc-next base k = omega arith
 
 -- the index of a pc in its page
@@ -184,21 +185,60 @@ word-at ram f {base} k even small within =
     (sym (pc-place k even small within))
 
 -- an operation does what its word means
+pub acts-meant : {held held' : Held} (o : Op) (word : ℕ) {next : Next} {pc : ℕ} {old new : Hart} {ram ram' : Ram}
+    → IsOp o word → Acts held held' (op_by o old.registers pc) next pc old new ram ram'
+    → Acts held held' (word_by (instruction_of word) old.registers pc) next pc old new ram ram'
+acts-meant o word {next} {pc} {old} {new} {ram} {ram'} is acts =
+    let P : Effect → Type 0 = λ e. Leaves e acts.answers next pc old new ram ram' in
+    record {
+      answers = acts.answers;
+      allowed = acts.allowed;
+      does = subst P (is old.registers pc (seen ram acts.answers)) acts.does;
+      kept = acts.kept;
+      count = acts.count;
+    }
+
+-- a word that is the one at a pc
+pub acts-at : {held held' : Held} {word : ℕ} (f : ℕ) {next : Next} {pc : ℕ} {old new : Hart} {ram ram' : Ram}
+    → word ≡ word_in ram f pc
+    → Acts held held' (word_by (instruction_of word) old.registers pc) next pc old new ram ram'
+    → Acts held held' (word_by (instruction_of (word_in ram f pc)) old.registers pc) next pc old new ram ram'
+acts-at {held} {held'} f {next} {pc} {old} {new} {ram} {ram'} same acts =
+    subst (λ w. Acts held held' (word_by (instruction_of w) old.registers pc) next pc old new ram ram') same acts
+
 pub acts-worded : {held held' : Held} (o : Op) {word : ℕ} (f : ℕ) {next : Next} {pc : ℕ} {old new : Hart}
     {ram ram' : Ram} → IsOp o word → word ≡ word_in ram f pc
     → Acts held held' (op_by o old.registers pc) next pc old new ram ram'
     → Acts held held' (word_by (instruction_of (word_in ram f pc)) old.registers pc) next pc old new ram ram'
-acts-worded o f {next} {pc} {old} {new} {ram} {ram'} is same acts =
-    let P : Effect → Type 0 = λ e. Leaves e acts.answers next pc old new ram ram' in
-    let means = is old.registers pc (seen ram acts.answers)
-    ∙ ap (λ w. word_by (instruction_of w) old.registers pc (seen ram acts.answers)) same in
-    record {
-      answers = acts.answers;
-      allowed = acts.allowed;
-      does = subst P means acts.does;
-      kept = acts.kept;
-      count = acts.count;
-    }
+acts-worded o {word} f is same acts = acts-at f same (acts-meant o word is acts)
+
+-- ---- where it goes on
+
+-- not all is done because of a trap
+pub stops-early : (next : Next) {words done : ℕ} {t : Trap} → MovesOn words done next → trap_of next ≡ Some t
+    → done < words
+stops-early (Stop s) moves some = moves
+stops-early _ moves some = absurd (cc some)
+
+-- and it is where a program stays
+pub stops-there : (next : Next) {pc : ℕ} {t : Trap} → trap_of next ≡ Some t → goes_to pc next ≡ pc
+stops-there (Stop s) some = refl
+stops-there _ some = absurd (cc some)
+
+-- else something is
+pub moves-some : (next : Next) {words done : ℕ} → MovesOn words done next → trap_of next ≡ None → 0 < words → 0 < done
+moves-some Behind moves none more = rw moves more
+moves-some (Stored g part) moves none more = moves
+moves-some (At to) moves none more = moves
+moves-some (Stop t) moves none more = absurd (cc none)
+
+pub if-some : (P : Trap → Type 0) (o : Option Trap) → ((t : Trap) → o ≡ Some t → P t) → IfSome o P
+if-some P None h = tt
+if-some P (Some t) h = h t refl
+
+pub if-none : (P : Type 0) (o : Option Trap) → (o ≡ None → P) → IfNone o P
+if-none P None h = h refl
+if-none P (Some t) h = tt
 
 -- ---- stops
 

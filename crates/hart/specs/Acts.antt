@@ -1,5 +1,6 @@
 -- What operations leave, and where a hart goes on after them.
-use Rattle.std.specs.Prelude.{ℕ, ◌≡◌, List, Option, Some, None, MatchResult, length}
+use Rattle.std.specs.Prelude.{ℕ, ◌≡◌, ◌*◌, ◌/◌, ◌==◌, if◌then◌else◌, List, Option, Some, None, MatchResult, length}
+use Rattle.ram.specs.Memory.{word_of}
 use Rattle.unixmodel.specs.declared.trap.Trap.{Trap}
 use Rattle.unixmodel.specs.Meaning.{Effect}
 use Rattle.unixmodel.specs.Meaning.Change.{Nothing}
@@ -7,20 +8,48 @@ use Rattle.unixmodel.specs.Numbers.{plus}
 use Rattle.unixmodel.specs.Translation.{Held, IsKept}
 use Rattle.hart.specs.Answered.{Answers, AreAllowed, Sight, seen, stored}
 use Rattle.hart.specs.declared.act.Next.{Next}
-use Rattle.hart.specs.declared.act.Next.TheVariants.{At, Behind, Stop}
+use Rattle.hart.specs.declared.act.Next.TheVariants.{At, Behind, Stop, Stored}
 use Rattle.hart.specs.declared.state.Hart.{Hart}
 
 -- the trap that was raised
 abbrev pub trap_of : Next → Option Trap
 trap_of Behind = None
+trap_of (Stored f part) = None
 trap_of (At target) = None
 trap_of (Stop t) = Some t
 
 -- where a hart goes on; a trap leaves it where it was
 abbrev pub pc_after : Next → ℕ → ℕ
 pc_after Behind pc = plus pc 4
+pc_after (Stored f part) pc = plus pc 4
 pc_after (At target) pc = target
 pc_after (Stop t) pc = pc
+
+-- where a program goes on, from a pc after what was done
+abbrev pub goes_to : ℕ → Next → ℕ
+goes_to pc Behind = pc
+goes_to pc (Stored f part) = pc
+goes_to pc (At target) = target
+goes_to pc (Stop t) = pc
+
+-- the part of a frame that was stored to
+abbrev pub part_of : Next → Option ℕ
+part_of Behind = None
+part_of (Stored f part) = Some part
+part_of (At target) = None
+part_of (Stop t) = None
+
+-- of stores only one to this frame
+abbrev pub seen_in : Next → ℕ → Next
+seen_in Behind f = Behind
+seen_in (Stored g part) f = if g.0 == f then Stored g part else Behind
+seen_in (At target) f = At target
+seen_in (Stop t) f = Stop t
+
+-- the words of a frame are as they were, except for those of a part that was stored to
+abbrev pub KeepsWords : Next → ℕ → List (List ℕ) → List (List ℕ) → Type 0
+KeepsWords next f ram ram' = (k : ℕ) → (part_of next ≡ Some (k / 32) → ⊥)
+    → word_of ram' f (4 * k) 4 ≡ word_of ram f (4 * k) 4
 
 -- The registers and the pc are the effect's, and it writes no memory. A trap leaves the hart as it was.
 abbrev pub Turns : Effect → Next → ℕ → Hart → Hart → Type 0
@@ -45,3 +74,9 @@ pub record Acts (held held' : Held) (meaning : Sight → Effect) (next : Next) (
   pub does : Leaves (meaning (seen ram answers)) answers next pc old new ram ram'
   pub kept : IsKept held held' ram old.root.0
   pub count : length ram' ≡ length ram
+
+-- it is done, and of each frame only a part is new that was stored to
+pub record Operates (held held' : Held) (meaning : Sight → Effect) (next : Next) (pc : ℕ) (old new : Hart)
+    (ram ram' : List (List ℕ)) : Type 0 where
+  pub acts : Acts held held' meaning next pc old new ram ram'
+  pub only : (f : ℕ) → KeepsWords (seen_in next f) f ram ram'

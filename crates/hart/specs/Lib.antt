@@ -6,3 +6,4 @@ pub mod Operations
 pub mod Acts
 pub mod Runs
 pub mod Stops
+pub mod Checked

@@ -11,7 +11,7 @@ use Rattle.hart.specs.Answered.{given}
 use Rattle.hart.specs.Changes.{IsSound, WritesOnly, changed}
 use Rattle.hart.specs.Stops.{IsPast}
 use Rattle.hart.specs.declared.act.Next.{Next}
-use Rattle.hart.specs.declared.act.Next.TheVariants.{At, Behind, Stop}
+use Rattle.hart.specs.declared.act.Next.TheVariants.{At, Behind, Stop, Stored}
 use Rattle.hart.specs.declared.state.Hart.{Hart}
 
 -- where a program is
@@ -76,14 +76,9 @@ pub record StaysWhole (held : Held) (old new : Hart) (ram ram' : List (List ℕ)
 abbrev pub word_in : List (List ℕ) → ℕ → ℕ → ℕ
 word_in ram f pc = number (bytes_at 4 pc (given ram f))
 
--- where a program goes on, from a pc after what was done
-abbrev pub goes_to : ℕ → Next → ℕ
-goes_to pc Behind = pc
-goes_to pc (At target) = target
-goes_to pc (Stop t) = pc
-
--- of `words` words all are done, or some up to a jump, or not all because of a trap
+-- of `words` words all are done, or some up to a jump or a store, or not all because of a trap
 abbrev pub MovesOn : ℕ → ℕ → Next → Type 0
 MovesOn words done Behind = done ≡ words
+MovesOn words done (Stored f part) = 0 < done
 MovesOn words done (At target) = 0 < done
 MovesOn words done (Stop t) = done < words

@@ -43,12 +43,13 @@ pub fn store_size(op: StoreOp) -> u64
     }
 }
 
-/// Whether an address is a multiple of the size. If so, the bytes there are on one page.
+/// Whether an address is a multiple of the size. If so, the bytes there are on one page, and in one part of it.
 #[inline]
 pub fn is_aligned(address: u64, size: u64) -> bool
     requires { IsSize size }
     ensures is { result ≡ (address % size == 0) }
     ensures fits { IsTrue result → address % 4096 + size ≤ 4096 }
+    ensures part { IsTrue result → address % 128 + size ≤ 128 }
 {
     match size {
         1 => true,

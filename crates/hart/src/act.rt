@@ -2,21 +2,21 @@
 //!
 //! The pc is an argument, and where to go on is the result, so that a loop over operations has the pc in a register.
 ghost use Rattle.std.specs.Prelude.{◌≡◌, ◌%◌, ◌/◌, ◌<◌, ◌+◌, ◌*◌, ◌^◌, ◌==◌, ◌≤◌, ℕ, if◌then◌else◌, Some, None};
-ghost use Rattle.std.specs.Prelude.{slice_index, length, IfSome};
+ghost use Rattle.std.specs.Prelude.{slice_index, length, IfSome, MatchResult};
 ghost use Rattle.unixmodel.specs.Meaning.{jump, set_register, write};
 ghost use Rattle.unixmodel.specs.Numbers.{extend};
 ghost use Rattle.unixmodel.specs.Translation.{HoldsInside};
-ghost use Rattle.hart.specs.Acts.{Acts, Turns};
+ghost use Rattle.hart.specs.Acts.{Operates, Turns, goes_to, part_of, pc_after, seen_in, trap_of};
 ghost use Rattle.hart.specs.Answered.{load_by, store_by};
 ghost use Rattle.hart.specs.Stops.{pc_at};
 ghost use Rattle.hart.specs.Operations.{by_branch, by_registers, by_words, offset_by, op_by};
 
 use crate::access::{is_aligned, load_size, load_value, locate, place, store_size, store_value};
-use crate::in_page::InPage;
+use crate::in_page::{InPage, Part};
 use crate::operation::{Op, Target};
 use crate::state::Hart;
 use crate::{alu, bits};
-use ram::Ram;
+use ram::{FrameNo, Ram};
 use std::marker::Model;
 use sv39::Translate;
 use unixmodel::instr::{BranchOp, LoadOp, Reg, RegOp, RegOpW, StoreOp};
@@ -61,12 +61,88 @@ impl Aligned {
     }
 }
 
-/// Where a hart goes on: at the next instruction, or at an address, or nowhere, since a trap was raised.
+/// Where a hart goes on: at the next instruction, also after a store to a part of a frame, or at an address, or
+/// nowhere, since a trap was raised.
 #[derive(Clone, Copy)]
 pub enum Next {
     Behind,
+    Stored(FrameNo, Part),
     At(Aligned),
     Stop(Trap),
+}
+
+impl Next {
+    /// The pc after an instruction at a pc, or the trap of one that isn't done.
+    #[inline(always)]
+    pub fn after(self, pc: u64) -> Result<u64, Trap>
+        ensures { MatchResult result (λ to. (trap_of self ≡ None) × (to ≡ pc_after self pc))
+            (λ t. trap_of self ≡ Some t) }
+    {
+        match self {
+            Next::Behind => Ok(pc.wrapping_add(4)),
+            Next::Stored(_, _) => Ok(pc.wrapping_add(4)),
+            Next::At(to) => Ok(to.address()),
+            Next::Stop(trap) => Err(trap),
+        }
+    }
+
+    /// The same, but of stores only one to frame `f` is reported.
+    #[inline(always)]
+    pub fn seen_in(self, f: FrameNo) -> Next
+        ensures { result ≡ seen_in self f.0 }
+    {
+        match self {
+            Next::Behind => Next::Behind,
+            Next::Stored(g, part) => {
+                if g.0 == f.0 {
+                    Next::Stored(g, part)
+                } else {
+                    Next::Behind
+                }
+            }
+            Next::At(to) => Next::At(to),
+            Next::Stop(trap) => Next::Stop(trap),
+        }
+    }
+
+    /// The part that was stored to.
+    #[inline(always)]
+    pub fn stored(&self) -> Option<Part>
+        ensures { result ≡ part_of self.now }
+    {
+        match *self {
+            Next::Behind => None,
+            Next::Stored(_, part) => Some(part),
+            Next::At(_) => None,
+            Next::Stop(_) => None,
+        }
+    }
+
+    /// The trap that was raised.
+    #[inline(always)]
+    pub fn trap(&self) -> Option<Trap>
+        ensures { result ≡ trap_of self.now }
+    {
+        match *self {
+            Next::Behind => None,
+            Next::Stored(_, _) => None,
+            Next::At(_) => None,
+            Next::Stop(trap) => Some(trap),
+        }
+    }
+
+    /// Where a program goes on that is at this address if nothing jumped.
+    #[inline(always)]
+    pub fn address(&self, pc: u64) -> u64
+        ensures { result ≡ goes_to pc self.now }
+    {
+        match *self {
+            Next::Behind => pc,
+            Next::Stored(_, _) => pc,
+            Next::At(to) => to.address(),
+            Next::Stop(_) => pc,
+        }
+    }
 }
 
 #[inline(always)]
@@ -170,7 +246,7 @@ impl Hart {
         trans: &mut T,
     ) -> Next
         requires { HoldsInside (T.held trans.old) ram.now }
-        ensures { (pc : ℕ) → Acts (T.held trans.old) (T.held trans.new)
+        ensures { (pc : ℕ) → Operates (T.held trans.old) (T.held trans.new)
             (load_by self.old.registers pc op rd address) result pc self.old self.new ram.now ram.now }
     {
         if !is_aligned(address, load_size(op)) {
@@ -186,7 +262,7 @@ impl Hart {
     #[inline(always)]
     fn probe<T: Translate>(&self, op: LoadOp, address: u64, ram: &Ram, trans: &mut T) -> Next
         requires { HoldsInside (T.held trans.old) ram.now }
-        ensures { (pc : ℕ) → Acts (T.held trans.old) (T.held trans.new)
+        ensures { (pc : ℕ) → Operates (T.held trans.old) (T.held trans.new)
             (load_by self.now.registers pc op 0 address) result pc self.now self.now ram.now ram.now }
     {
         if !is_aligned(address, load_size(op)) {
@@ -209,7 +285,7 @@ impl Hart {
         trans: &mut T,
     ) -> Next
         requires { HoldsInside (T.held trans.old) ram.old }
-        ensures { (pc : ℕ) → Acts (T.held trans.old) (T.held trans.new)
+        ensures { (pc : ℕ) → Operates (T.held trans.old) (T.held trans.new)
             (store_by self.now.registers pc op address value) result pc self.now self.now ram.old ram.new }
     {
         if !is_aligned(address, store_size(op)) {
@@ -218,8 +294,9 @@ impl Hart {
         match locate(trans, ram, self.root, address, Access::Store) {
             None => stop(Cause::StorePageFault, address),
             Some(f) => {
+                ram.frames_are_whole();
                 store_value(op, ram, f, place(address), value);
-                Next::Behind
+                Next::Stored(f, Part::of(address))
             }
         }
     }
@@ -236,7 +313,7 @@ impl Hart {
         trans: &mut T,
     ) -> Next
         requires { HoldsInside (T.held trans.old) ram.old }
-        ensures { Acts (T.held trans.old) (T.held trans.new)
+        ensures { Operates (T.held trans.old) (T.held trans.new)
             (op_by op.now self.old.registers (pc_at pc.base pc.index)) result (pc_at pc.base pc.index) self.old self.new
             ram.old ram.new }
     {

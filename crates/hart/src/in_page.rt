@@ -1,6 +1,59 @@
 //! Addresses by their page and their index in it.
-ghost use Rattle.std.specs.Prelude.{◌≡◌, ◌%◌, ◌<◌};
+ghost use Rattle.std.specs.Prelude.{◌≡◌, ◌%◌, ◌/◌, ◌<◌};
 ghost use Rattle.hart.specs.Stops.{pc_at};
+
+use std::marker::Model;
+
+/// How many words a part of a page has.
+pub const PART: usize = 32;
+
+/// A part of a page, by its number.
+#[derive(Clone, Copy)]
+pub struct Part {
+    number: usize,
+}
+
+impl Model for Part {
+    ghost use Rattle.std.specs.Prelude.{ℕ, ◌<◌};
+
+    ghost Value = { ℕ };
+
+    ghost view = { λ p. p.number };
+
+    ghost invariant = { λ p. p.number < 32 };
+
+    ghost inverse = { λ n. record { number = n } };
+}
+
+impl Part {
+    /// That of an address.
+    #[inline(always)]
+    pub fn of(address: u64) -> Part
+        ensures { result ≡ address % 4096 / 128 }
+    {
+        Part {
+            number: (address % 4096 / 128) as usize,
+        }
+    }
+
+    /// That of word `k`.
+    #[inline(always)]
+    pub fn of_word(k: usize) -> Part
+        requires { k < 1024 }
+        ensures { result ≡ k / 32 }
+    {
+        Part { number: k / PART }
+    }
+
+    /// Its number.
+    #[inline(always)]
+    pub fn number(self) -> usize
+        ensures is { result ≡ self }
+        ensures within { result < 32 }
+    {
+        self.number
+    }
+}
 
 /// The address of a word of a page. It is added up only where it is asked for, which few operations do.
 #[derive(Clone, Copy)]

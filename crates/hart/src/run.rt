@@ -4,18 +4,19 @@
 //! references of their own, and the index in the page as a local. A jump in the page leads to another index, and a
 //! hart's pc is written where the page is left.
 ghost use Rattle.std.specs.Prelude.{◌≡◌, ◌%◌, ◌/◌, ◌<◌, ◌≤◌, ◌+◌, ◌-◌, ◌*◌, ℕ, Err, IfNone, IfSome, List, None, Some};
-ghost use Rattle.std.specs.Prelude.{false, length};
+ghost use Rattle.std.specs.Prelude.{false, length, slice_index};
 ghost use Rattle.unixmodel.specs.Translation.{HoldsInside};
 ghost use Rattle.unixmodel.specs.Words.{instruction_of};
 ghost use Rattle.sv39.specs.Mapping.{Mapped, frame_for};
-ghost use Rattle.hart.specs.Acts.{Acts, trap_of};
+ghost use Rattle.hart.specs.Acts.{Acts, KeepsWords, goes_to, trap_of};
 ghost use Rattle.hart.specs.Answered.{word_by};
-ghost use Rattle.hart.specs.Runs.{GoesOn, MovesOn, StaysWhole, goes_to, point_at, point_of, word_in};
+ghost use Rattle.hart.specs.Checked.{AreChecked, AreNow};
+ghost use Rattle.hart.specs.Runs.{GoesOn, MovesOn, StaysWhole, point_at, point_of};
 ghost use Rattle.hart.specs.Stops.{AreFree, EndsAt, IsBehind, IsClear, is_stop, pc_at};
 
 use crate::access::locate;
 use crate::act::{Aligned, Next};
-use crate::decoded::{Decoded, Page};
+use crate::decoded::{Checked, Decoded, Page};
 use crate::in_page::InPage;
 use crate::state::Hart;
 use crate::stops::{Known, Stops, Stretch};
@@ -63,12 +64,51 @@ fn goes_to_word<S: Stops>(stops: &S, base: u64, to: Aligned, known: Known) -> Op
     Some((index, free))
 }
 
+// The index of the word of the page at `base` at which a run goes on, and stretches without a stop, if it is in the
+// page and at no stop: it is in the first of them. If nothing jumped this is word `k`.
+#[inline(always)]
+fn onward<S: Stops>(
+    stops: &S,
+    base: u64,
+    k: usize,
+    next: &Next,
+    known: Known,
+) -> Option<(usize, Known)>
+    requires page { base % 4096 ≡ 0 }
+    requires known { AreFree (S.addresses stops.now) base known }
+    requires from { trap_of next.now ≡ None → known.here.from ≤ k }
+    ensures done { IfSome result (λ r. trap_of next.now ≡ None) }
+    ensures at { IfSome result (λ r. (r.0 < 1024) × (pc_at base r.0 ≡ goes_to (pc_at base k) next.now)) }
+    ensures past { IfSome result (λ r. is_stop (S.addresses stops.now) (goes_to (pc_at base k) next.now) ≡ false) }
+    ensures free { IfSome result (λ r. AreFree (S.addresses stops.now) base r.1) }
+    ensures inside { IfSome result (λ r. (r.1.here.from ≤ r.0) × (r.0 < r.1.here.to)) }
+{
+    match *next {
+        Next::Behind => within(k, known),
+        Next::Stored(_, _) => within(k, known),
+        Next::At(to) => goes_to_word(stops, base, to, known),
+        Next::Stop(_) => None,
+    }
+}
+
+// A word, if it is before the end of the first stretch.
+#[inline(always)]
+fn within(k: usize, known: Known) -> Option<(usize, Known)>
+    ensures { IfSome result (λ r. (r.0 ≡ k) × (r.1 ≡ known) × (k < known.here.to)) }
+{
+    if k < known.here.to {
+        Some((k, known))
+    } else {
+        None
+    }
+}
+
 impl Hart {
-    // Does the operation of word `k` of the page at address `base`, which has frame `f`.
+    // Does the operation of word `k` of the page at address `base`. Of stores only one to frame `f` is reported.
     #[inline(always)]
     fn obey<T: Translate, S>(
         &mut self,
-        page: &mut Page,
+        page: &Page,
         f: FrameNo,
         base: u64,
         k: usize,
@@ -76,27 +116,22 @@ impl Hart {
         trans: &mut T,
     ) -> Next
         requires inside { HoldsInside (T.held trans.old) ram.old }
-        requires frame { f.0 < length ram.old }
         requires place { k < 1024 }
-        requires page { base % 4096 ≡ 0 }
-        ensures { Acts (T.held trans.old) (T.held trans.new)
-            (word_by (instruction_of (word_in ram.old f.0 (pc_at base k))) self.old.registers (pc_at base k))
+        ensures acts { Acts (T.held trans.old) (T.held trans.new)
+            (word_by (instruction_of (slice_index page.now.words k)) self.old.registers (pc_at base k))
             result (pc_at base k) self.old self.new ram.old ram.new }
+        ensures words { KeepsWords result f.0 ram.old ram.new }
     {
-        self.act::<T, S>(
-            page.op(k, ram.load_u32(f, 4 * k)),
-            InPage { base, index: k },
-            ram,
-            trans,
-        )
+        let next = self.act::<T, S>(page.op(k), InPage { base, index: k }, ram, trans);
+        next.seen_in(f)
     }
 
-    // Does operations of that page, from one index to another or to the first that jumps. Returns how many were done,
-    // and where it goes on.
+    // Does operations of the page at `base`, which has frame `f`, from one index to another or to the first that jumps
+    // or stores to the frame. Returns how many were done, and where it goes on.
     #[inline(always)]
     fn straight<T: Translate, S>(
         &mut self,
-        page: &mut Page,
+        page: &Page,
         f: FrameNo,
         base: u64,
         from: usize,
@@ -105,15 +140,16 @@ impl Hart {
         trans: &mut T,
     ) -> (usize, Next)
         requires inside { HoldsInside (T.held trans.old) ram.old }
-        requires frame { f.0 < length ram.old }
         requires places { (from ≤ end) × (end ≤ 1024) }
         requires page { base % 4096 ≡ 0 }
+        requires now { AreNow page.now.words ram.old f.0 from end }
         ensures goes { (mapping : List Mapped) (stops : List ℕ)
-            → frame_for mapping (base / 4096) Access.Fetch ≡ Some f.0 → IsClear stops base from end →
+            → frame_for mapping (base / 4096) Access.Fetch ≡ Some f.0 → IsClear stops base from (from + result.0) →
             GoesOn (T.held trans.old) (T.held trans.new) self.old.root.0 mapping stops
             (point_at self.old (pc_at base from) ram.old)
             (point_at self.new (goes_to (pc_at base (from + result.0)) result.1) ram.new) result.0
             (trap_of result.1) }
+        ensures words { KeepsWords result.1 f.0 ram.old ram.new }
         ensures whole { StaysWhole (T.held trans.new) self.old self.new ram.old ram.new }
         ensures within { from + result.0 ≤ end }
         ensures moves { MovesOn (end - from) result.0 result.1 }
@@ -122,6 +158,7 @@ impl Hart {
             ram.frames_are_whole();
             match self.obey::<T, S>(page, f, base, k, ram, trans) {
                 Next::Behind => {}
+                Next::Stored(g, part) => return (k - from + 1, Next::Stored(g, part)),
                 Next::At(to) => return (k - from + 1, Next::At(to)),
                 Next::Stop(trap) => return (k - from, Next::Stop(trap)),
             }
@@ -129,13 +166,14 @@ impl Hart {
         (end - from, Next::Behind)
     }
 
-    // Does at most `count` operations of the page of the pc, which has frame `f`, until a jump leaves the page, up to a
-    // stop. Returns how many are left, and a trap.
+    // Does at most `count` operations of the page of the pc, which is at `base` and has frame `f`, until a jump leaves
+    // the page, up to a stop. Returns how many are left, and a trap.
     #[inline(never)]
     fn run_page<T: Translate, S: Stops>(
         &mut self,
         page: &mut Page,
         f: FrameNo,
+        base: u64,
         ram: &mut Ram,
         trans: &mut T,
         count: u32,
@@ -143,6 +181,7 @@ impl Hart {
     ) -> (u32, Option<Trap>)
         requires inside { HoldsInside (T.held trans.old) ram.old }
         requires frame { f.0 < length ram.old }
+        requires start { base ≡ self.old.pc / 4096 * 4096 }
         requires some { 0 < count }
         ensures goes { (mapping : List Mapped) → frame_for mapping (self.old.pc / 4096) Access.Fetch ≡ Some f.0 →
             GoesOn (T.held trans.old) (T.held trans.new) self.old.root.0 mapping (S.addresses stops.now)
@@ -154,7 +193,7 @@ impl Hart {
         ensures behind { IfSome result.1
             (λ t. IsBehind (S.addresses stops.now) (count - result.0) self.old.pc self.new.pc) }
     {
-        let base = self.pc / 4096 * 4096;
+        let mut checked = Checked::new();
         let mut k = (self.pc % 4096 / 4) as usize;
         let mut free = Known {
             here: Stretch {
@@ -166,28 +205,19 @@ impl Hart {
         // where the count ends, if no operation jumps
         let mut limit = k + count as usize;
         while k < limit {
-            let end = first_of(k, limit, free.here.to);
+            let known = checked.reach(page, ram, f, k);
+            let end = first_of(k, limit, first_of(k, free.here.to, known));
             let (done, next) = self.straight::<T, S>(page, f, base, k, end, ram, trans);
-            let left = limit - (k + done);
-            match next {
-                Next::At(to) => {
-                    let Some((index, known)) = goes_to_word(stops, base, to, free) else {
-                        self.pc = to.address();
-                        return (left as u32, None);
-                    };
-                    free = known;
-                    k = index;
-                    limit = k + left;
-                }
-                Next::Behind => {
-                    self.pc = base.wrapping_add(4 * (k + done) as u64);
-                    return (left as u32, None);
-                }
-                Next::Stop(trap) => {
-                    self.pc = base.wrapping_add(4 * (k + done) as u64);
-                    return (left as u32, Some(trap));
-                }
-            }
+            checked.heed(&next);
+            let at = k + done;
+            let left = limit - at;
+            let Some((index, stretches)) = onward(stops, base, at, &next, free) else {
+                self.pc = next.address(base.wrapping_add(4 * at as u64));
+                return (left as u32, next.trap());
+            };
+            free = stretches;
+            k = index;
+            limit = k + left;
         }
         self.pc = base.wrapping_add(4 * k as u64);
         (0, None)
@@ -223,7 +253,16 @@ impl Hart {
                 };
                 return (count - left, Some(trap));
             };
-            let (rest, stopped) = self.run_page(decoded.page(f.0), f, ram, trans, left, stops);
+            let base = self.pc / 4096 * 4096;
+            let (rest, stopped) = self.run_page(
+                decoded.page(f.0),
+                f,
+                base,
+                ram,
+                trans,
+                left,
+                stops,
+            );
             left = rest;
             if let Some(trap) = stopped {
                 return (count - left, Some(trap));

@@ -11,7 +11,6 @@ ghost use Rattle.hart.specs.Answered.{IsFetched, IsStep, cycle_by};
 ghost use Rattle.hart.specs.Follows.{Follows};
 
 use crate::access::{locate, place};
-use crate::act::Next;
 use crate::decoding::flatten;
 use crate::in_page::InPage;
 use crate::state::Hart;
@@ -53,16 +52,13 @@ impl Hart {
                 address: pc,
             });
         };
-        match self.act::<T, Alone>(&flatten(word), InPage::of(pc), ram, trans) {
-            Next::Behind => {
-                self.pc = pc.wrapping_add(4);
+        let next = self.act::<T, Alone>(&flatten(word), InPage::of(pc), ram, trans);
+        match next.after(pc) {
+            Ok(after) => {
+                self.pc = after;
                 None
             }
-            Next::At(to) => {
-                self.pc = to.address();
-                None
-            }
-            Next::Stop(trap) => Some(trap),
+            Err(trap) => Some(trap),
         }
     }
 

@@ -1,11 +1,12 @@
-use Rattle.hart.proofs.Common.{arith, pc_at, word_in, ◌∙◌, ◌≡◌}
-use Rattle.hart.proofs.Straight.{acts-worded, word-at}
+use Rattle.hart.proofs.Common.{slice_index}
+use Rattle.hart.proofs.Acts.{acts-in}
+use Rattle.hart.proofs.Straight.{acts-meant}
 use Rattle.hart.proofs.state.Hart.obey.Goals as goal
 
-pub returns : goal.returns
-returns g c =
-    let base = c.args.base in
-    let k = c.args.k in
-    let word : c.load_u32.result ≡ word_in c.args.ram.now c.args.f.0 (pc_at base k) = c.load_u32.ensures
-    ∙ word-at _ _ k c.requires.page (omega (arith, c.ranges.base.fits)) c.requires.place in
-    acts-worded _ _ c.op.ensures word c.act.ensures
+pub returns-clause-acts : goal.returns-clause-acts
+returns-clause-acts g c =
+    rw c.seen_in.ensures (acts-meant _ (slice_index c.args.page.now.words c.args.k) c.op.ensures
+    (acts-in c.act-next.result c.args.f.0 c.act-next.ensures.acts))
+
+pub returns-clause-words : goal.returns-clause-words
+returns-clause-words g c = rw c.seen_in.ensures (c.act-next.ensures.only c.args.f.0)

@@ -1,89 +1,113 @@
-use Rattle.hart.proofs.Common.{arith, IsClear, None, plus, refl, Some, sym, ◌*◌, ◌+◌, ◌-◌, ◌/◌, ◌∙◌, ◌≡◌}
-use Rattle.hart.proofs.Straight.{clear-free, free-clear, left-begins, left-on, page-then, pc-of, stop-behind}
+use Rattle.hart.proofs.Common.{arith, GoesOn, goes_to, IsClear, List, Mapped, Fetch, frame_for, None, pc_at, point_at}
+use Rattle.hart.proofs.Common.{refl, Some, sym, trap_of, ℕ, ◌+◌, ◌-◌, ◌/◌, ◌<◌, ◌≡◌, ◌≤◌}
+use Rattle.hart.proofs.Straight.{free-clear, if-none, if-some, left-begins, left-on, moves-some, page-then, pc-of}
+use Rattle.hart.proofs.Straight.{stop-behind, stops-early, stops-there}
 use Rattle.hart.proofs.state.Hart.run_page.Given as given
 use Rattle.hart.proofs.state.Hart.run_page.Goals as goal
 use Rattle.hart.proofs.state.Hart.run_page.Goals.{After-straight-done}
 
--- up to where operations are done none is at a stop
-clear : (g : given.Over) (c : After-straight-done g)
-    → IsClear (g.S.Stops.addresses c.args.stops.now) (c.args.self.now.pc / 4096 * 4096) c.loop-k.k
-    c.first_of-end.result
-clear g c =
-    let free = c.loop-k.invariant.4.here in
-    free-clear _ _ c.loop-k.invariant.5 c.first_of-end.ensures.end free
+-- up to there none is at a stop
+clear : (g : given.Over) (c : After-straight-done g) (end : ℕ) → end ≤ c.first_of-end.result
+    → IsClear (g.S.Stops.addresses c.args.stops.now) c.args.base c.loop-k.k end
+clear g c end within =
+    free-clear _ _ c.loop-k.invariant.since
+    (omega (arith, within, c.first_of-end.ensures.end, c.first_of.ensures.limit)) c.loop-k.invariant.free.here
+
+-- the operations that were done
+went : (g : given.Over) (c : After-straight-done g) (mapping : List Mapped)
+    → frame_for mapping (c.args.base / 4096) Fetch ≡ Some c.args.f.0
+    → GoesOn (g.T.Translate.held c.loop-k.trans) (g.T.Translate.held c.straight-done.new.trans) c.loop-k.self.root.0
+    mapping (g.S.Stops.addresses c.args.stops.now) (point_at c.loop-k.self (pc_at c.args.base c.loop-k.k) c.loop-k.ram)
+    (point_at c.straight-done.new.self
+    (goes_to (pc_at c.args.base (c.loop-k.k + c.straight-done.result.0)) c.straight-done.result.1)
+    c.straight-done.new.ram) c.straight-done.result.0 (trap_of c.straight-done.result.1)
+went g c mapping at = c.straight-done.ensures.goes mapping _ at (clear g c _ c.straight-done.ensures.within)
+
+-- something is done, unless a trap was raised
+some : (g : given.Over) (c : After-straight-done g) → trap_of c.straight-done.result.1 ≡ None
+    → 0 < c.straight-done.result.0
+some g c none = moves-some c.straight-done.result.1 c.straight-done.ensures.moves none
+    (omega (arith, c.first_of-end.ensures.after))
 
 pub loop-k-init : goal.loop-k-init
-loop-k-init g c = (
-  left-begins _ _ c.requires.inside (pc-of (omega arith) c.args.self.now.aligned refl refl) (omega arith),
-  omega arith,
-  omega arith,
-  omega arith,
-  record {
+loop-k-init g c = record {
+  goes = left-begins _ _ c.requires.inside
+      (pc-of (omega arith) c.args.self.now.aligned (sym c.requires.start) refl) (omega arith);
+  below = omega arith;
+  bounded = omega arith;
+  counted = omega arith;
+  free = record {
     here = λ j since less. c.clear_to.ensures.clear j (omega (arith, since)) less;
     before = λ j since less. absurd (omega (arith, less));
     within = c.clear_to.ensures.within.1;
     within_before = omega arith;
-  },
-  omega arith,
-  omega arith,
-)
+  };
+  since = omega arith;
+  before = omega arith;
+  checked = c.new-checked.ensures _ _ _;
+}
+
+pub straight-done-requires-clause-now : goal.straight-done-requires-clause-now
+straight-done-requires-clause-now g c = λ j since less.
+    c.reach-known.ensures.now j since
+    (omega (arith, less, c.first_of-end.ensures.end, c.first_of.ensures.end))
+
+pub onward-requires-clause-from : goal.onward-requires-clause-from
+onward-requires-clause-from g c = λ none.
+    let more = some g (goal.at.onward-requires-clause-from g c).After-straight-done none in
+    omega (arith, more, c.loop-k.invariant.since)
 
 pub loop-k-preserved : goal.loop-k-preserved
 loop-k-preserved g c =
-    let some = rw c.in-At.is at c.straight-done.ensures.moves in (
-      left-on c.straight-done.new.self c.loop-k.k c.in-Some.index (c.in-At.to)
-          c.straight-done.new.ram c.loop-k.invariant.0 refl some
+    let after = (goal.at.loop-k-preserved g c).After-straight-done in
+    let more = some g after c.in-Some.ensures.done in
+    record {
+      goes = left-on c.straight-done.new.self c.loop-k.k c.in-Some.index
+          (goes_to (pc_at c.args.base (c.loop-k.k + c.straight-done.result.0)) c.straight-done.result.1)
+          c.straight-done.new.ram c.loop-k.invariant.goes c.requires.start more
           (omega (arith, c.straight-done.ensures.within, c.first_of-end.ensures.limit)) c.straight-done.ensures.whole
           c.in-Some.ensures.past c.in-Some.ensures.at.1
-          (λ mapping at. (rw c.in-At.is at (c.straight-done.ensures.goes mapping _
-          at (clear g (goal.at.loop-k-preserved g c).After-straight-done)))),
-      c.in-Some.ensures.at.0,
-      omega arith,
-      omega (arith, c.loop-k.invariant.3),
-      c.in-Some.ensures.free,
-      omega (arith, c.in-Some.ensures.inside.0),
-      c.in-Some.ensures.inside.1,
-    )
+          (λ mapping at. rw c.in-Some.ensures.done at (went g after mapping at));
+      below = c.in-Some.ensures.at.0;
+      bounded = omega arith;
+      counted = omega (arith, c.loop-k.invariant.counted);
+      free = c.in-Some.ensures.free;
+      since = omega (arith, c.in-Some.ensures.inside.0);
+      before = c.in-Some.ensures.inside.1;
+      checked = c.heed.ensures _ _ _ _ c.straight-done.ensures.words c.reach-known.ensures.checked;
+    }
 
 pub returns-in_default-clause-goes : goal.returns-in_default-clause-goes
 returns-in_default-clause-goes g c =
-    page-then c.straight-done.new.self c.straight-done.result.0 _ c.loop-k.k c.address-self.result
-    c.straight-done.new.ram None
-    c.loop-k.invariant.0 refl refl (omega (arith, c.straight-done.ensures.within, c.first_of-end.ensures.limit))
-    (λ mapping at. rw c.address-self.ensures.is
-    (rw c.in-At.is at (c.straight-done.ensures.goes mapping _
-    at (clear g (goal.at.returns-in_default-clause-goes g c).After-straight-done))))
+    let after = (goal.at.returns-in_default-clause-goes g c).After-straight-done in
+    rw (c.trap.ensures, c.address-self.ensures)
+    (page-then c.straight-done.new.self c.straight-done.result.0 _ c.loop-k.k
+    (goes_to (pc_at c.args.base (c.loop-k.k + c.straight-done.result.0)) c.straight-done.result.1)
+    c.straight-done.new.ram (trap_of c.straight-done.result.1) c.loop-k.invariant.goes c.requires.start refl
+    (omega (arith, c.straight-done.ensures.within, c.first_of-end.ensures.limit)) (went g after))
 
-pub returns-in-Behind-clause-goes : goal.returns-in-Behind-clause-goes
-returns-in-Behind-clause-goes g c =
-    page-then c.straight-done.new.self c.straight-done.result.0 _ c.loop-k.k
-    (plus (c.args.self.now.pc / 4096 * 4096) (4 * (c.loop-k.k + c.straight-done.result.0)))
-    c.straight-done.new.ram None c.loop-k.invariant.0 refl refl
-    (omega (arith, c.straight-done.ensures.within, c.first_of-end.ensures.limit))
-    (λ mapping at. rw c.in-Behind.is
-    at (c.straight-done.ensures.goes mapping _
-    at (clear g (goal.at.returns-in-Behind-clause-goes g c).After-straight-done)))
+pub returns-in_default-clause-fewer : goal.returns-in_default-clause-fewer
+returns-in_default-clause-fewer g c = rw c.trap.ensures (if-none _ _ (λ none.
+    let more = some g (goal.at.returns-in_default-clause-fewer g c).After-straight-done none in
+    omega (arith, more, c.straight-done.ensures.within, c.first_of-end.ensures.limit, c.loop-k.invariant.counted)))
 
-pub returns-in-Stop-clause-goes : goal.returns-in-Stop-clause-goes
-returns-in-Stop-clause-goes g c =
-    page-then c.straight-done.new.self c.straight-done.result.0 _ c.loop-k.k
-    (plus (c.args.self.now.pc / 4096 * 4096) (4 * (c.loop-k.k + c.straight-done.result.0)))
-    c.straight-done.new.ram (Some c.in-Stop.trap) c.loop-k.invariant.0 refl refl
-    (omega (arith, c.straight-done.ensures.within, c.first_of-end.ensures.limit))
-    (λ mapping at. rw c.in-Stop.is
-    at (c.straight-done.ensures.goes mapping _
-    at (clear g (goal.at.returns-in-Stop-clause-goes g c).After-straight-done)))
+pub returns-in_default-clause-trap : goal.returns-in_default-clause-trap
+returns-in_default-clause-trap g c = rw c.trap.ensures (if-some _ _ (λ t stopped.
+    let early = stops-early c.straight-done.result.1 c.straight-done.ensures.moves stopped in
+    omega (arith, early, c.first_of-end.ensures.limit)))
 
-pub returns-in-Stop-clause-behind : goal.returns-in-Stop-clause-behind
-returns-in-Stop-clause-behind g c =
-    let k = c.loop-k.k in
-    stop-behind (c.args.self.now.pc / 4096 * 4096) k c.first_of-end.result c.straight-done.result.0 _
-    c.loop-k.invariant.0 refl
-    (rw c.in-Stop.is at c.straight-done.ensures.moves)
-    (omega (arith, c.straight-done.ensures.within, c.first_of-end.ensures.limit))
-    (clear g (goal.at.returns-in-Stop-clause-behind g c).After-straight-done)
+pub returns-in_default-clause-behind : goal.returns-in_default-clause-behind
+returns-in_default-clause-behind g c =
+    let after = (goal.at.returns-in_default-clause-behind g c).After-straight-done in
+    rw c.trap.ensures (if-some _ _ (λ t stopped.
+    let early = stops-early c.straight-done.result.1 {words = c.first_of-end.result - c.loop-k.k}
+    c.straight-done.ensures.moves stopped in
+    rw (c.address-self.ensures, stops-there c.straight-done.result.1 stopped)
+    (stop-behind c.args.base c.loop-k.k c.first_of-end.result c.straight-done.result.0 _ c.loop-k.invariant.goes refl
+    early (omega (arith, c.straight-done.ensures.within, c.first_of-end.ensures.limit))
+    (clear g after c.first_of-end.result (omega arith)))))
 
 pub returns-clause-goes : goal.returns-clause-goes
 returns-clause-goes g c =
     let none : c.loop-k.limit - c.loop-k.k ≡ 0 = omega (arith, c.loop-k-test.false) in
-    rw none at c.loop-k.invariant.0.goes
+    rw none at c.loop-k.invariant.goes.goes
