@@ -11,6 +11,8 @@ use Rattle.std.specs.Prelude.{if◌then◌else◌}
 use Rattle.std.proofs.Math.Bool.{or-true}
 use Rattle.unixmodel.specs.Translation.{is_canonical as is_canonical_page}
 use Rattle.pagetable.specs.Agree.{given_frame, translation}
+use Rattle.std.proofs.lemmas.Option.{none-some}
+use Rattle.std.specs.Option.{option_map}
 use Rattle.pagetable.proofs.TreeLemmas.{child_of-table, child_of-zero, leaf_of-leaf, leaf_of-zero, lookup_of-low}
 use Rattle.pagetable.proofs.TreeLemmas.{mid_is_node, root_at, table_at-low, table_at-mid, tree-leaf_sound, tree-root}
 
@@ -178,3 +180,9 @@ module _ {m : Ram} {r : ℕ} (is : IsTree m r) where
   pub lookup-sound : (p : ℕ) {f a : ℕ} → lookup_of m r p ≡ Some (f, a) → (f < length m) × IsLeafMarks a
   unfolding lookup_of
   lookup-sound p {f} {a} h = leaf_at-sound p f a (table_at m r (low_node p)) refl h
+
+  -- the frame of a page that is mapped lies in the memory
+  pub mapped-inside : (p : ℕ) (o : Option (ℕ × ℕ)) {f : ℕ} → lookup_of m r p ≡ o
+      → option_map (λ (x : ℕ × ℕ). x.0) o ≡ Some f → f < length m
+  mapped-inside p None at e = absurd (none-some _ e)
+  mapped-inside p (Some (g, a)) at e = rw (ap (λ (x : Option ℕ). unwrap_or x 0) e) at (lookup-sound p at).0

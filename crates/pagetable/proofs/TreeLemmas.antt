@@ -13,6 +13,7 @@ use Rattle.ram.proofs.MemoryLemmas.{frame_of-put_other, IsMemory-set, length-put
 use Rattle.ram.proofs.MemoryLemmas.{word_of-put_beside, word_of-put_same, word_of-zeros}
 use Rattle.std.proofs.lemmas.List.{length-replicate}
 use Rattle.std.specs.List.{IsDistinct}
+use Rattle.std.specs.Option.{is_some}
 use Rattle.std.proofs.Math.Nat.{div-div-eq-div-mul}
 
 -- ---- entries
@@ -141,6 +142,10 @@ pub lookup_of-low : (m : Ram) (r page : ℕ) {o : Option ℕ} → o ≡ table_at
     → lookup_of m r page ≡ leaf_at m o (page % 512)
 unfolding lookup_of
 lookup_of-low m r page at = ap (λ x. leaf_at m x (page % 512)) (sym at)
+
+pub some-unless_none : {A : Type 0} (o : Option A) → (o ≡ None → ⊥) → is_some o ≡ true
+some-unless_none None none = absurd (none refl)
+some-unless_none (Some _) none = refl
 
 module _ {m : Ram} {r : ℕ} (is : IsTree m r) where
   pub tree-root : r < length m

@@ -133,9 +133,7 @@ fn link(ram: &mut Ram, frames: &mut Frames, table: FrameNo, index: u64) -> Frame
     ensures extra { extra_of frames.new ≡ extra_of frames.old }
 {
     ram.frames_are_whole();
-    let Some(fresh) = frames.take(ram) else {
-        unreachable!()
-    };
+    let fresh = frames.take(ram).unwrap();
     ram.zero(fresh);
     ram.frames_are_whole();
     ram.store_u64(
@@ -380,13 +378,8 @@ impl PageTable {
         ensures free { free_of ram.new frames.now ≡ free_of ram.old frames.now }
         ensures keeps { Keeps ram.old ram.new self.now.root.0 frames.now frames.now }
     {
-        let Some(table) = self.low_table(ram, page) else {
-            unreachable!()
-        };
-        let Some((frame, _old)) = leaf(ram, table, page % ENTRIES) else {
-            unreachable!()
-        };
-        self.set_leaf(ram, frames, page, table, frame, marks);
+        let way = self.way(ram, page);
+        self.set_leaf(ram, frames, page, way.low, way.frame, marks);
     }
 
     /// Maps a page that is mapped to another frame with other marks. No table is added or removed.
@@ -403,10 +396,8 @@ impl PageTable {
         ensures free { free_of ram.new frames.now ≡ free_of ram.old frames.now }
         ensures keeps { Keeps ram.old ram.new self.now.root.0 frames.now frames.now }
     {
-        let Some(lowest) = self.low_table(ram, page) else {
-            unreachable!()
-        };
-        self.set_leaf(ram, frames, page, lowest, frame, marks);
+        let low = self.low_table(ram, page).unwrap();
+        self.set_leaf(ram, frames, page, low, frame, marks);
     }
 
     // Gives back a table of the lowest level that maps nothing.
@@ -466,15 +457,9 @@ impl PageTable {
         ensures low { table_at ram.now self.now.root.0 (low_node page) ≡ Some result.low.0 }
         ensures frame { option_map (λ x. x.0) (lookup_of ram.now self.now.root.0 page) ≡ Some result.frame.0 }
     {
-        let Some(mid) = self.mid_table(ram, page) else {
-            unreachable!()
-        };
-        let Some(low) = self.low_table(ram, page) else {
-            unreachable!()
-        };
-        let Some((frame, _)) = leaf(ram, low, page % ENTRIES) else {
-            unreachable!()
-        };
+        let mid = self.mid_table(ram, page).unwrap();
+        let low = self.low_table(ram, page).unwrap();
+        let (frame, _) = leaf(ram, low, page % ENTRIES).unwrap();
         Way { mid, low, frame }
     }
 

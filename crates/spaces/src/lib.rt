@@ -149,10 +149,7 @@ fn space_at(places: &ArrayVec<Option<Space>, 64>, at: usize) -> &Space
     requires { is_some (slot places.now.items at) ≡ true }
     ensures { slot places.now.items at ≡ Some result.now }
 {
-    match &places.as_slice()[at] {
-        Some(space) => space,
-        None => unreachable!(),
-    }
+    places.as_slice()[at].as_ref().unwrap()
 }
 
 // Whether a slot has a space.
@@ -167,10 +164,7 @@ fn pipe_at(pipes: &ArrayVec<Option<Pipe>, 100>, q: usize) -> &Pipe
     requires { is_some (slot pipes.now.items q) ≡ true }
     ensures { slot pipes.now.items q ≡ Some result.now }
 {
-    match &pipes.as_slice()[q] {
-        Some(pipe) => pipe,
-        None => unreachable!(),
-    }
+    pipes.as_slice()[q].as_ref().unwrap()
 }
 
 // The pipe of a slot, if it has one.
@@ -200,10 +194,7 @@ fn put_in(pipe: &mut Pipe, ram: &mut Ram, bytes: &[u8]) -> usize
     ensures stays { Stays pipe.old pipe.new }
     ensures memory { ram.new ≡ slice_set ram.old pipe.old.frame (frame_of ram.new pipe.old.frame) }
 {
-    match pipe.write_some(ram, bytes) {
-        Some(count) => count,
-        None => unreachable!(),
-    }
+    pipe.write_some(ram, bytes).unwrap()
 }
 
 // Takes bytes of a pipe whose write end is open into a buffer.
@@ -501,10 +492,8 @@ impl<T: Translate> Spaces<T> {
         requires idle { self.old.active ≢ Some at }
         ensures { self.new ≡ with_place self.old at None }
     {
-        match self.places[at].take() {
-            Some(space) => space.destroy(&mut self.ram, &mut self.frames),
-            None => unreachable!(),
-        }
+        let space = self.places[at].take().unwrap();
+        space.destroy(&mut self.ram, &mut self.frames);
     }
 
     /// Adds `bytes` bytes to a slot's space: new pages are 0 and have these marks. `false`: the frames don't
@@ -518,12 +507,10 @@ impl<T: Translate> Spaces<T> {
         ensures refused { OnFalse result (Lacks self.old self.new (grown_at self.old at bytes (marks_from perm))) }
     {
         self.ram.frames_are_whole();
-        match &mut self.places[at] {
-            Some(space) => space
-                .grow(&mut self.ram, &mut self.frames, bytes, perm)
-                .is_ok(),
-            None => unreachable!(),
-        }
+        let space = self.places[at].as_mut().unwrap();
+        space
+            .grow(&mut self.ram, &mut self.frames, bytes, perm)
+            .is_ok()
     }
 
     /// Takes the last `bytes` bytes from a slot's space, and the pages that no byte needs then.
@@ -532,10 +519,8 @@ impl<T: Translate> Spaces<T> {
         requires less { bytes ≤ (view_at self.old at).size }
         ensures { self.new ≡ with_view self.old at (shrunk (view_at self.old at) bytes) }
     {
-        match &mut self.places[at] {
-            Some(space) => space.shrink(&mut self.ram, &mut self.frames, bytes),
-            None => unreachable!(),
-        }
+        let space = self.places[at].as_mut().unwrap();
+        space.shrink(&mut self.ram, &mut self.frames, bytes);
         fence_active(&mut self.translator, self.active, at);
     }
 
@@ -747,10 +732,8 @@ impl<T: Translate> Spaces<T> {
         requires { has_pipe self.old q ≡ true }
         ensures { self.new ≡ with_pipe self.old q None }
     {
-        match self.pipes[q].take() {
-            Some(pipe) => self.frames.give(&mut self.ram, pipe.frame()),
-            None => unreachable!(),
-        }
+        let pipe = self.pipes[q].take().unwrap();
+        self.frames.give(&mut self.ram, pipe.frame());
     }
 
     /// The bytes of a pipe, the oldest first: those of the second slice follow those of the first. `None` where
@@ -789,10 +772,8 @@ impl<T: Translate> Spaces<T> {
         ensures bytes { self.new ≡ put_behind self.old q bytes.now }
         ensures count { result ≡ length (fitting (bytes_in self.old q) bytes.now) }
     {
-        match &mut self.pipes[q] {
-            Some(pipe) => put_in(pipe, &mut self.ram, bytes),
-            None => unreachable!(),
-        }
+        let pipe = self.pipes[q].as_mut().unwrap();
+        put_in(pipe, &mut self.ram, bytes)
     }
 
     // Takes bytes of a pipe into a buffer, as many as there are and fit, and returns how many.
@@ -802,10 +783,8 @@ impl<T: Translate> Spaces<T> {
         ensures bytes { buffer.new ≡ take (length buffer.old) (bytes_in self.old q) ++ drop result buffer.old }
         ensures count { result ≡ min (length buffer.old) (length (bytes_in self.old q)) }
     {
-        match &mut self.pipes[q] {
-            Some(pipe) => take_out(pipe, &self.ram, buffer),
-            None => unreachable!(),
-        }
+        let pipe = self.pipes[q].as_mut().unwrap();
+        take_out(pipe, &self.ram, buffer)
     }
 
     // Appends what fits of the bytes of a slot to a pipe, by way of a buffer that holds them all, and returns how many.

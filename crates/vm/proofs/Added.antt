@@ -12,11 +12,17 @@ use Rattle.vm.proofs.Common.{among_first_not, eqb, free-first, free_count-taken,
 use Rattle.vm.proofs.Common.{IsEmpty-tables, IsNode, length-set, lookup_of-same, low_node, made-is, mid_is_node}
 use Rattle.vm.proofs.Common.{mid_node, missing-is, Node, None, none-among, only-root, replicate, Root, root_at}
 use Rattle.vm.proofs.Common.{IsLast, Mid, slice_set, table_at, table_at-same, table_of, trap_marks, ◌%◌, ◌/◌}
+use Rattle.std.specs.Prelude.{Err, Ok, Result}
+use Rattle.std.specs.Result.{is_ok}
 use Rattle.vm.proofs.DenseLemmas.{list-after, Besides, Trades-held, Trades-with, alone-set, beyond-held, count-held}
 use Rattle.vm.proofs.DenseLemmas.{dense-set, frame_at-is, held-same, IsNext, IsTaken, length-held, made-tables}
 use Rattle.vm.proofs.DenseLemmas.{marks_at-is, missing-next, page-held, pages_below-more, pages_below-same}
 use Rattle.vm.proofs.DenseLemmas.{read_below-same, table-held, frame_at-same, held-not_free, lookup-parts}
 use Rattle.vm.proofs.DenseLemmas.{marks_at-same, cases_root, paged-same}
+
+pub ok-unless_err : {A E : Type 0} (r : Result A E) → ((e : E) → r ≡ Err e → ⊥) → is_ok r ≡ true
+ok-unless_err (Ok _) none = refl
+ok-unless_err (Err e) none = absurd (none e refl)
 
 -- the old space, beside whoever else holds the page's frame
 pub record IsBefore (z : Ram) (r t n f marks : ℕ) (q : Frames) : Type 0 where

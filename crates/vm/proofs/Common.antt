@@ -35,7 +35,7 @@ pub use Rattle.pagetable.proofs.ShapeLemmas.{IsEmpty-tables, IsTidy-empty, only-
 pub use Rattle.pagetable.proofs.AgreeLemmas.{lookup-sound}
 pub use Rattle.pagetable.proofs.ShapeLemmas.{length-made, made-is, table_of-some}
 pub use Rattle.pagetable.proofs.TreeLemmas.{free-first, free_count-taken, further-same, low_is_node, mid_is_node}
-pub use Rattle.pagetable.proofs.TreeLemmas.{missing-is, no_low, root_at, tree-root}
+pub use Rattle.pagetable.proofs.TreeLemmas.{missing-is, no_low, root_at, some-unless_none, tree-root}
 pub use Rattle.pagetable.specs.Shape.{Adds, IsEmpty, IsLast, IsTidy, IsUsed, Removes, table_of}
 unfoldable pub use Rattle.pagetable.specs.Shape.{made}
 pub use Rattle.pagetable.specs.Tree.{HasTable, IsLeafMarks, IsNode, IsPaged, IsTree, Keeps, leaf_at, Low, low_node}

@@ -91,10 +91,8 @@ impl Space {
             return None;
         }
         let table = PageTable { root: self.root };
-        match table.find(ram, page) {
-            Some((frame, leaf)) => Some((frame, marks_of(leaf))),
-            None => unreachable!(),
-        }
+        let (frame, leaf) = table.find(ram, page)?;
+        Some((frame, marks_of(leaf)))
     }
 
     /// The bytes from an address to the end of its page; none where a program may not read them.

@@ -189,23 +189,15 @@ impl Space {
         if frames.free() < 4 {
             return Err(VmFault::Frames);
         }
-        match PageTable::new(ram, frames) {
-            Some(table) => match frames.take(ram) {
-                Some(trap) => {
-                    ram.zero(trap);
-                    match table.map(ram, frames, TRAP_PAGE, trap, TRAP) {
-                        Ok(()) => Ok(Space {
-                            root: table.root,
-                            trap,
-                            size: 0,
-                        }),
-                        Err(_) => unreachable!(),
-                    }
-                }
-                None => unreachable!(),
-            },
-            None => unreachable!(),
-        }
+        let table = PageTable::new(ram, frames).unwrap();
+        let trap = frames.take(ram).unwrap();
+        ram.zero(trap);
+        table.map(ram, frames, TRAP_PAGE, trap, TRAP).unwrap();
+        Ok(Space {
+            root: table.root,
+            trap,
+            size: 0,
+        })
     }
 
     // Makes a free frame the next page, all zero.
@@ -228,16 +220,9 @@ impl Space {
     {
         ram.frames_are_whole();
         let table = PageTable { root: self.root };
-        match frames.take(ram) {
-            Some(frame) => {
-                ram.zero(frame);
-                match table.map(ram, frames, n, frame, marks) {
-                    Ok(()) => {}
-                    Err(_) => unreachable!(),
-                }
-            }
-            None => unreachable!(),
-        }
+        let frame = frames.take(ram).unwrap();
+        ram.zero(frame);
+        table.map(ram, frames, n, frame, marks).unwrap();
     }
 
     /// Makes a space with the same pages, whose frames each have one holder more then; its trap frame is all 0.
@@ -267,14 +252,10 @@ impl Space {
         if u64::from(frames.free()) < frames_for(pages_in(self.size)) {
             return Err(VmFault::Frames);
         }
-        match Space::new(ram, frames) {
-            Ok(mut child) => {
-                self.share_pages(&child, ram, frames);
-                child.size = self.size;
-                Ok(child)
-            }
-            Err(_) => unreachable!(),
-        }
+        let mut child = Space::new(ram, frames).unwrap();
+        self.share_pages(&child, ram, frames);
+        child.size = self.size;
+        Ok(child)
     }
 
     /// Adds `bytes` bytes: new pages are all 0 and have these marks, and a store goes through at them where those

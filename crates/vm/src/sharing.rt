@@ -92,9 +92,7 @@ impl Space {
     {
         ram.frames_are_whole();
         let table = PageTable { root: self.root };
-        let Some((frame, leaf)) = table.find(ram, page) else {
-            unreachable!()
-        };
+        let (frame, leaf) = table.find(ram, page).unwrap();
         let open = marks_of(leaf).leaf();
         if frames.holders(ram, frame) > 1 {
             self.split_page(ram, frames, page, frame, open)
@@ -113,19 +111,14 @@ impl Space {
     {
         ram.frames_are_whole();
         let table = PageTable { root: self.root };
-        let Some((frame, leaf)) = table.find(ram, page) else {
-            unreachable!()
-        };
+        let (frame, leaf) = table.find(ram, page).unwrap();
         let closed = marks_of(leaf).closed_leaf();
         self.set_page(ram, frames, page, frame, closed);
         if !frames.share(ram, frame) {
             unreachable!()
         }
         let table = PageTable { root: child.root };
-        match table.map(ram, frames, page, frame, closed) {
-            Ok(()) => {}
-            Err(_) => unreachable!(),
-        }
+        table.map(ram, frames, page, frame, closed).unwrap();
     }
 
     // Shares all pages with a new space that has none yet. The frames suffice: each page is counted in full.

@@ -3,20 +3,20 @@ use Rattle.pagetable.proofs.TreeLemmas.{free-first, free-link, Links-put}
 use Rattle.pagetable.proofs.link.Goals as goal
 
 pub zero-requires : goal.zero-requires
-zero-requires c = (free-first c.requires.valid c.in-Some.fresh.0 (free_of c.args.ram.now c.take.new.self)
-    c.in-Some.ensures.some).0
+zero-requires c = (free-first c.requires.valid c.unwrap-fresh.result.0 (free_of c.args.ram.now c.take.new.self)
+    (rw c.unwrap-fresh.ensures at c.take.ensures.some)).0
 
 pub returns : goal.returns
 returns c =
     let m = c.args.ram.now in
-    let some = c.in-Some.ensures in
+    let some = rw c.unwrap-fresh.ensures at c.take.ensures.some in
     let t = c.args.table.0 in
-    let u = c.in-Some.fresh.0 in
+    let u = c.unwrap-fresh.result.0 in
     let rest = free_of m c.take.new.self in
-    let inside = (free-first c.requires.valid u rest some.some).0 in
+    let inside = (free-first c.requires.valid u rest some).0 in
     let links : Links m c.store_u64.new.self t c.args.index u =
     rw (c.store_u64.ensures, c.zero.ensures, c.from.ensures, c.from-2.ensures)
     (Links-put m t c.args.index u c.frames_are_whole.ensures.memory c.requires.table inside
-    (among_first_not t u rest (rw some.some at c.requires.apart)).0 c.requires.index (omega (arith, inside))) in
-    let free = free-link c.requires.valid some.valid links some.some c.requires.apart in
-    record { taken = some.some ∙ ap (λ l. u ∷ l) (sym free.0); valid = free.1; links = links; extra = some.extra }
+    (among_first_not t u rest (rw some at c.requires.apart)).0 c.requires.index (omega (arith, inside))) in
+    let free = free-link c.requires.valid c.take.ensures.valid links some c.requires.apart in
+    record { taken = some ∙ ap (λ l. u ∷ l) (sym free.0); valid = free.1; links = links; extra = c.take.ensures.extra }

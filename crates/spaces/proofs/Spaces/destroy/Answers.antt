@@ -1,21 +1,21 @@
 use Rattle.spaces.proofs.Spaces.destroy.Given as given
 use Rattle.spaces.proofs.Spaces.destroy.Goals as goal
 use Rattle.spaces.proofs.Spaces.destroy.Goals.{After-destroy}
-use Rattle.spaces.proofs.Places.{missing, there}
+use Rattle.spaces.proofs.Places.{there}
 use Rattle.spaces.proofs.Traded.{Placed, destroyed, set_in}
 use Rattle.std.proofs.Common.{None, sym, ◌∙◌}
 
 pub destroy-requires : goal.destroy-requires
-destroy-requires g c = c.self.invariant.machine.each c.args.at c.in-Some.space
-    (there c.args.at c.deref_mut.ensures.value (sym c.take.ensures.value ∙ c.in-Some.is))
+destroy-requires g c = c.self.invariant.machine.each c.args.at c.unwrap-space.result
+    (there c.args.at c.deref_mut.ensures.value (sym c.take.ensures.value ∙ c.unwrap-space.ensures))
 
 gone : (g : given.Over) (c : After-destroy g)
     → Placed g.T.Translate.held c.self.inside
     (set_in c.self.inside c.destroy.new.ram c.destroy.new.frames c.self.inside.translator c.deref_mut.result.now
     c.args.at c.take.new.self) c.args.at None
 gone g c =
-    destroyed c.self.invariant c.args.at c.in-Some.space
-    (there c.args.at c.deref_mut.ensures.value (sym c.take.ensures.value ∙ c.in-Some.is))
+    destroyed c.self.invariant c.args.at c.unwrap-space.result
+    (there c.args.at c.deref_mut.ensures.value (sym c.take.ensures.value ∙ c.unwrap-space.ensures))
     (rw (← c.self.view_is) at c.requires.idle) c.deref_mut.ensures.value c.take.ensures.after
     c.destroy.ensures.valid c.destroy.ensures.trades
 
@@ -24,8 +24,3 @@ invariant_of-self g c = (gone g (goal.at.invariant_of-self g c).After-destroy).s
 
 pub returns : goal.returns
 returns g c = rw (← c.self.view_is) (gone g (goal.at.returns g c).After-destroy).view
-
-pub unreachable-requires : goal.unreachable-requires
-unreachable-requires g c =
-    missing c.self.inside c.args.at (rw (← c.self.view_is) at c.requires.space) c.deref_mut.ensures.value
-    (sym c.take.ensures.value ∙ c.in-None.is)

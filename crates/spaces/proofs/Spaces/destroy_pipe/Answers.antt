@@ -1,14 +1,14 @@
 use Rattle.spaces.proofs.Spaces.destroy_pipe.Given as given
 use Rattle.spaces.proofs.Spaces.destroy_pipe.Goals as goal
 use Rattle.spaces.proofs.Spaces.destroy_pipe.Goals.{After-give}
-use Rattle.spaces.proofs.Piped.{Piped, pipe-found, pipe-frame, pipe-missing, piped-gone, set_pipe}
+use Rattle.spaces.proofs.Piped.{Piped, pipe-found, pipe-frame, piped-gone, set_pipe}
 use Rattle.std.proofs.Common.{None, sym, ◌∙◌}
 
 pub give-requires : goal.give-requires
 give-requires g c =
     let e = pipe-found c.self.inside c.args.q _ (rw (← c.self.view_is) at c.requires) c.deref_mut.ensures.value
-    (sym c.take.ensures.value ∙ c.in-Some.is) in
-    let frame = pipe-frame c.self.invariant c.args.q c.in-Some.pipe e in
+    (sym c.take.ensures.value ∙ c.unwrap-pipe.ensures) in
+    let frame = pipe-frame c.self.invariant c.args.q c.unwrap-pipe.result e in
     record {
       valid = c.self.invariant.machine.free;
       inside = rw c.frame.ensures.frame frame.0;
@@ -21,9 +21,9 @@ gone : (g : given.Over) (c : After-give g)
     None
 gone g c =
     let e = pipe-found c.self.inside c.args.q _ (rw (← c.self.view_is) at c.requires) c.deref_mut.ensures.value
-    (sym c.take.ensures.value ∙ c.in-Some.is) in
+    (sym c.take.ensures.value ∙ c.unwrap-pipe.ensures) in
     let frame = c.frame.ensures.frame in
-    piped-gone c.self.invariant c.args.q c.in-Some.pipe e c.deref_mut.ensures.value c.take.ensures.after
+    piped-gone c.self.invariant c.args.q c.unwrap-pipe.result e c.deref_mut.ensures.value c.take.ensures.after
     c.give.ensures.valid (rw frame at c.give.ensures.holders) (rw frame at c.give.ensures.others)
     (λ more. (c.give.ensures.stays (rw frame more)).1)
 
@@ -32,8 +32,3 @@ invariant_of-self g c = (gone g (goal.at.invariant_of-self g c).After-give).soun
 
 pub returns : goal.returns
 returns g c = rw (← c.self.view_is) (gone g (goal.at.returns g c).After-give).view
-
-pub unreachable-requires : goal.unreachable-requires
-unreachable-requires g c =
-    pipe-missing c.self.inside c.args.q _ (rw (← c.self.view_is) at c.requires) c.deref_mut.ensures.value
-    (sym c.take.ensures.value ∙ c.in-None.is)

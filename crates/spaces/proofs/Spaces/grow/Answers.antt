@@ -2,14 +2,14 @@ use Rattle.spaces.proofs.Spaces.grow.Given as given
 use Rattle.spaces.proofs.Spaces.grow.Goals as goal
 use Rattle.spaces.proofs.Spaces.grow.Goals.{After-grow}
 use Rattle.spaces.proofs.Common.{free_count, shown, ◌+◌, ◌++◌, ◌-◌, ◌<◌, ◌⊎◌, Some, inl, inr, refl, replicate}
-use Rattle.spaces.proofs.Common.{zero_page, frames_for, marks_from, entries_of, pages_in, pages_of, coherent-grown}
-use Rattle.spaces.proofs.Places.{held-is, missing, there}
+use Rattle.spaces.proofs.Common.{sym, zero_page, frames_for, marks_from, entries_of, pages_in, pages_of, coherent-grown}
+use Rattle.spaces.proofs.Places.{held-is, there}
 use Rattle.spaces.proofs.SpacesLemmas.{err-false, ok-true, refilled}
 use Rattle.spaces.proofs.Traded.{Placed, changed, grown-front, over-grown, placed-as, set_in, shown-as, view-same}
 
 pub grow-requires : goal.grow-requires
-grow-requires g c = c.self.invariant.machine.each c.args.at c.in-Some.space
-    (there c.args.at c.deref_mut.ensures.value c.in-Some.is)
+grow-requires g c = c.self.invariant.machine.each c.args.at c.unwrap-space.result.now
+    (there c.args.at c.deref_mut.ensures.value (sym (rw c.unwrap-space.ensures at c.as_mut.ensures.value)))
 
 more : (g : given.Over) (c : After-grow g)
     → Placed g.T.Translate.held c.self.inside
@@ -17,11 +17,11 @@ more : (g : given.Over) (c : After-grow g)
     c.args.at (Some c.grow.new.self)) c.args.at (shown c.grow.new.ram (Some c.grow.new.self))
 more g c =
     let i = c.self.inside in
-    let x = c.in-Some.space in
+    let x = c.unwrap-space.result.now in
     let front = grown-front i.ram c.grow.new.ram i.frames c.grow.new.frames x c.grow.new.self c.grow.result
     c.grow.ensures.entries c.grow.ensures.unchanged in
     changed c.self.invariant c.args.at x c.grow.new.self i.translator
-    (there c.args.at c.deref_mut.ensures.value c.in-Some.is) (refilled c.args.at c.deref_mut.ensures.value refl)
+    (there c.args.at c.deref_mut.ensures.value (sym (rw c.unwrap-space.ensures at c.as_mut.ensures.value))) (refilled c.args.at c.deref_mut.ensures.value refl)
     c.grow.ensures.space c.grow.ensures.trades c.grow.ensures.root (λ t h. h)
     (λ a was. coherent-grown (g.T.Translate.held i.translator) x.root.0 (entries_of i.ram x)
     (entries_of c.grow.new.ram c.grow.new.self) front was)
@@ -31,10 +31,10 @@ invariant_of-self g c = (more g (goal.at.invariant_of-self g c).After-grow).soun
 
 pub returns-clause-done : goal.returns-clause-done
 returns-clause-done g c =
-    let x = c.in-Some.space in
+    let x = c.unwrap-space.result.now in
     let memory = pages_of c.self.inside.ram x
     ++ replicate (pages_in (x.size + c.args.bytes) - pages_in x.size) (zero_page (marks_from c.args.perm)) in
-    rw (← c.self.view_is, held-is c.self.inside _ (there c.args.at c.deref_mut.ensures.value c.in-Some.is))
+    rw (← c.self.view_is, held-is c.self.inside _ (there c.args.at c.deref_mut.ensures.value (sym (rw c.unwrap-space.ensures at c.as_mut.ensures.value))))
     (ok-true c.grow.result c.is_ok.result _ _ _ c.is_ok.ensures.value c.grow.ensures.pages c.grow.ensures.size
     (λ pages grew.
     let all = placed-as c.args.at (more g (goal.at.returns-clause-done g c).After-grow)
@@ -44,8 +44,8 @@ returns-clause-done g c =
 pub returns-clause-refused : goal.returns-clause-refused
 returns-clause-refused g c =
     let i = c.self.inside in
-    let x = c.in-Some.space in
-    let e = there c.args.at c.deref_mut.ensures.value c.in-Some.is in
+    let x = c.unwrap-space.result.now in
+    let e = there c.args.at c.deref_mut.ensures.value (sym (rw c.unwrap-space.ensures at c.as_mut.ensures.value)) in
     rw (← c.self.view_is, held-is i _ e)
     (err-false c.grow.result c.is_ok.result _ _ _ c.is_ok.ensures.value c.grow.ensures.only
     c.grow.ensures.unchanged (λ why u.
@@ -58,7 +58,3 @@ returns-clause-refused g c =
       view-same i c.args.at x c.grow.new.ram c.grow.new.frames c.grow.new.self _ u e
           (refilled c.args.at c.deref_mut.ensures.value refl),
     )))
-
-pub unreachable-requires : goal.unreachable-requires
-unreachable-requires g c =
-    missing c.self.inside c.args.at (rw (← c.self.view_is) at c.requires) c.deref_mut.ensures.value c.in-None.is

@@ -1,16 +1,16 @@
 use Rattle.spaces.proofs.Spaces.put_bytes.Given as given
 use Rattle.spaces.proofs.Spaces.put_bytes.Goals as goal
 use Rattle.spaces.proofs.Spaces.put_bytes.Goals.{After-put_in}
-use Rattle.spaces.proofs.Common.{bytes_of, Some, ap}
-use Rattle.spaces.proofs.Piped.{Piped, pipe-found, pipe-frame, pipe-is, pipe-missing, piped-as, piped-written, set_pipe}
+use Rattle.spaces.proofs.Common.{bytes_of, Some, ap, sym}
+use Rattle.spaces.proofs.Piped.{Piped, pipe-found, pipe-frame, pipe-is, piped-as, piped-written, set_pipe}
 
 pub put_in-requires : goal.put_in-requires
 put_in-requires g c =
     let e = pipe-found c.self.inside c.args.q _ (rw (← c.self.view_is) at c.requires) c.deref_mut.ensures.value
-    c.in-Some.is in
+    (sym (rw c.unwrap-pipe.ensures at c.as_mut.ensures.value)) in
     record {
-      frame = (pipe-frame c.self.invariant c.args.q c.in-Some.pipe e).0;
-      «open» = c.self.invariant.both c.args.q c.in-Some.pipe e;
+      frame = (pipe-frame c.self.invariant c.args.q c.unwrap-pipe.result.now e).0;
+      «open» = c.self.invariant.both c.args.q c.unwrap-pipe.result.now e;
     }
 
 wrote : (g : given.Over) (c : After-put_in g)
@@ -19,8 +19,8 @@ wrote : (g : given.Over) (c : After-put_in g)
     (Some c.put_in.new.pipe)) c.args.q (Some (bytes_of c.put_in.new.ram c.put_in.new.pipe))
 wrote g c =
     let e = pipe-found c.self.inside c.args.q _ (rw (← c.self.view_is) at c.requires) c.deref_mut.ensures.value
-    c.in-Some.is in
-    piped-written c.self.invariant c.args.q c.in-Some.pipe c.put_in.new.pipe _ e c.deref_mut.ensures.value
+    (sym (rw c.unwrap-pipe.ensures at c.as_mut.ensures.value)) in
+    piped-written c.self.invariant c.args.q c.unwrap-pipe.result.now c.put_in.new.pipe _ e c.deref_mut.ensures.value
     c.put_in.ensures.stays c.put_in.ensures.memory
 
 pub invariant_of-self : goal.invariant_of-self
@@ -30,14 +30,10 @@ pub returns : goal.returns
 returns g c =
     let held = pipe-is c.self.inside _
     (pipe-found c.self.inside c.args.q _ (rw (← c.self.view_is) at c.requires) c.deref_mut.ensures.value
-    c.in-Some.is) in
+    (sym (rw c.unwrap-pipe.ensures at c.as_mut.ensures.value))) in
     record {
       bytes = rw (← c.self.view_is, held)
           (piped-as _ (wrote g (goal.at.returns g c).After-put_in) (ap Some c.put_in.ensures.bytes)).view;
       count =
           rw (← c.self.view_is, held) c.put_in.ensures.count;
     }
-
-pub unreachable-requires : goal.unreachable-requires
-unreachable-requires g c =
-    pipe-missing c.self.inside c.args.q _ (rw (← c.self.view_is) at c.requires) c.deref_mut.ensures.value c.in-None.is

@@ -1,27 +1,33 @@
 use Rattle.vm.proofs.Common.{ap, arith, refl, rules, sym, ◌∙◌, frames_for}
+use Rattle.vm.proofs.Added.{ok-unless_err}
 use Rattle.vm.proofs.Forked.{forked, part-room, part-start}
 use Rattle.vm.proofs.Space.copy.Goals as goal
 
+pub unwrap-child-requires : goal.unwrap-child-requires
+unwrap-child-requires c = ok-unless_err _ (λ e err. search rules)
+
 pub share_pages-requires : goal.share_pages-requires
 share_pages-requires c =
-    let none = c.in-Ok.ensures.size in
-    let space = rw none at c.in-Ok.ensures.space in
-    let trades = rw none at c.in-Ok.ensures.trades in
+    let made = rw c.unwrap-child.ensures at c.new.ensures in
+    let none = made.size in
+    let space = rw none at made.space in
+    let trades = rw none at made.trades in
     record {
-      part = part-start c.args.self.now c.in-Ok.child c.requires space trades;
-      room = part-room c.args.self.now c.in-Ok.child c.requires space trades
+      part = part-start c.args.self.now c.unwrap-child.result c.requires space trades;
+      room = part-room c.args.self.now c.unwrap-child.result c.requires space trades
           (omega (arith, c.free.ensures c.args.ram.now, c.frames_for.ensures, ap frames_for c.pages_in.ensures));
     }
 
 pub returns : goal.returns
 returns c =
-    let f = forked c.args.self.now c.in-Ok.child c.requires (rw c.in-Ok.ensures.size at c.in-Ok.ensures.space)
-    (rw c.in-Ok.ensures.size at c.in-Ok.ensures.trades) c.share_pages.new.ram _ c.share_pages.ensures.all in
+    let made = rw c.unwrap-child.ensures at c.new.ensures in
+    let f = forked c.args.self.now c.unwrap-child.result c.requires (rw made.size at made.space)
+    (rw made.size at made.trades) c.share_pages.new.ram _ c.share_pages.ensures.all in
     record {
       space = f.child;
       size = refl;
       pages = f.pages;
-      registers = c.share_pages.ensures.all.trap ∙ c.in-Ok.ensures.registers;
+      registers = c.share_pages.ensures.all.trap ∙ made.registers;
       source = f.parent;
       marked = f.kept;
       kept = f.registers;

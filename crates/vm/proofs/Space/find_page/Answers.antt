@@ -12,11 +12,11 @@ pub returns-clause-found : goal.returns-clause-found
 returns-clause-found c =
     let m = c.args.ram.now in
     let r = c.args.self.now.root.0 in
-    let found = sym c.in-Some.ensures in
+    let found = sym c.in_ok-frame.ensures in
     ap Some (mapped-parts (sym (frame_at-is m r c.args.page found))
     (c.marks_of.ensures ∙ ap right_marks (sym (marks_at-is m r c.args.page found))))
     ∙ sym (get-mapping right_marks m r (pages_in c.args.self.now.size) c.args.page
     (omega (arith, c.pages_in.ensures, c.if-page-pages_in.false)))
 
 pub returns-clause-inside : goal.returns-clause-inside
-returns-clause-inside c = (lookup-sound c.requires.tree c.args.page (sym c.in-Some.ensures)).0
+returns-clause-inside c = (lookup-sound c.requires.tree c.args.page (sym c.in_ok-frame.ensures)).0

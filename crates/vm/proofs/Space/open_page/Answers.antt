@@ -5,9 +5,9 @@ use Rattle.vm.proofs.Space.open_page.Goals as goal
 use Rattle.vm.proofs.Space.open_page.Goals.{After-leaf-open}
 
 made : (c : After-leaf-open)
-    → IsMadeLeaf c.args.ram.now c.args.self.now.root.0 c.args.page c.in-Some.frame.0 c.leaf-open.result.0
+    → IsMadeLeaf c.args.ram.now c.args.self.now.root.0 c.args.page c.unwrap.result.0.0 c.leaf-open.result.0
     (λ rights. rights) true
-made c = made-leaf _ _ _ _ c.in-Some.leaf.0 _ (λ (a : Perm). a) true c.in-Some.ensures
+made c = made-leaf _ _ _ _ c.unwrap.result.1.0 _ (λ (a : Perm). a) true (rw c.unwrap.ensures at c.find.ensures)
     (c.leaf-open.ensures ∙ ap (λ (a : Perm). user_leaf a true) c.marks_of.ensures)
 
 pub holders-requires-clause-inside : goal.holders-requires-clause-inside
@@ -49,7 +49,7 @@ returns-else-holders-gt1-clause-same c =
 
 pub returns-then-holders-gt1-clause-kept : goal.returns-then-holders-gt1-clause-kept
 returns-then-holders-gt1-clause-kept c =
-    λ alone. absurd (page-shared c.args.ram.now c.args.frames.now c.in-Some.frame.0 c.requires.space.free
+    λ alone. absurd (page-shared c.args.ram.now c.args.frames.now c.unwrap.result.0.0 c.requires.space.free
     (omega (arith, c.holders.ensures, c.if-holders-gt1.true))
     (ap (further_at c.args.frames.now)
     (sym (made (goal.at.returns-then-holders-gt1-clause-kept c).After-leaf-open).frame) ∙ alone))

@@ -1,6 +1,6 @@
 use Rattle.vm.proofs.Common.{◌≡◌, false, true, ap, arith, ◌∙◌, Perm, shared_marks, marks_at, is_open, right_marks}
 use Rattle.vm.proofs.Common.{user_leaf, IsPart, IsSpace}
-use Rattle.vm.proofs.Added.{IsBefore, next-fits}
+use Rattle.vm.proofs.Added.{IsBefore, next-fits, ok-unless_err}
 use Rattle.vm.proofs.Forked.{IsClosed, closed-free, more-some, part-before, part-closed, part-holder, part-more}
 use Rattle.vm.proofs.PageLemmas.{leaf-closed}
 use Rattle.vm.proofs.Remap.{IsMadeLeaf, made-leaf, page-inside-is}
@@ -9,9 +9,9 @@ use Rattle.vm.proofs.Space.share_page.Goals as goal
 use Rattle.vm.proofs.Space.share_page.Goals.{After-closed_leaf-closed, After-set_page, After-share}
 
 made : (c : After-closed_leaf-closed)
-    → IsMadeLeaf c.args.ram.now c.args.self.now.root.0 c.args.page c.in-Some.frame.0 c.closed_leaf-closed.result.0
+    → IsMadeLeaf c.args.ram.now c.args.self.now.root.0 c.args.page c.unwrap.result.0.0 c.closed_leaf-closed.result.0
     shared_marks false
-made c = made-leaf _ _ _ _ c.in-Some.leaf.0 _ shared_marks false c.in-Some.ensures
+made c = made-leaf _ _ _ _ c.unwrap.result.1.0 _ shared_marks false (rw c.unwrap.ensures at c.find.ensures)
     (c.closed_leaf-closed.ensures ∙ ap (λ (a : Perm). user_leaf (shared_marks a) false) c.marks_of.ensures)
 
 shut : (c : After-closed_leaf-closed) → is_open c.closed_leaf-closed.result.0 ≡ false
@@ -19,7 +19,7 @@ shut c = ap is_open (made c).made
     ∙ leaf-closed (right_marks (marks_at c.args.ram.now c.args.self.now.root.0 c.args.page))
 
 closed : (c : After-set_page)
-    → IsClosed c.args.ram.now c.set_page.new.ram c.args.self.now c.args.page c.in-Some.frame.0
+    → IsClosed c.args.ram.now c.set_page.new.ram c.args.self.now c.args.page c.unwrap.result.0.0
     c.closed_leaf-closed.result.0 c.args.frames.now
 closed c =
     let leaf = (goal.at.After-set_page c).After-closed_leaf-closed in
@@ -55,7 +55,7 @@ set_page-requires c =
 -- the frame gets a holder then
 both : (c : After-share) → c.share.result ≡ true
     → IsSpace c.set_page.new.ram c.args.self.now c.share.new.self
-    × IsBefore c.set_page.new.ram c.args.child.now.root.0 c.args.child.now.trap.0 c.args.page c.in-Some.frame.0
+    × IsBefore c.set_page.new.ram c.args.child.now.root.0 c.args.child.now.trap.0 c.args.page c.unwrap.result.0.0
     c.closed_leaf-closed.result.0 c.share.new.self
 both c done =
     let set = (goal.at.After-share c).After-set_page in
@@ -67,9 +67,9 @@ pub share-requires-clause-held : goal.share-requires-clause-held
 share-requires-clause-held c =
     part-holder (part ((goal.at.share-requires-clause-held c).After-set_page)) c.requires.page c.set_page.ensures.frame
 
-pub unreachable-requires-then-not-share : goal.unreachable-requires-then-not-share
-unreachable-requires-then-not-share c =
-    let set = (goal.at.unreachable-requires-then-not-share c).After-set_page in
+pub unreachable-requires : goal.unreachable-requires
+unreachable-requires c =
+    let set = (goal.at.unreachable-requires c).After-set_page in
     let free = closed-free (closed set) c.requires.part.parent in
     omega (
       arith,
@@ -89,22 +89,22 @@ map-requires c =
       marks = (made at.After-closed_leaf-closed).marks;
     }
 
-pub unreachable-requires-in-Err : goal.unreachable-requires-in-Err
-unreachable-requires-in-Err c =
-    let at = goal.at.unreachable-requires-in-Err c in
+pub unwrap-requires-2 : goal.unwrap-requires-2
+unwrap-requires-2 c =
+    let at = goal.at.unwrap-requires-2 c in
     let before = (both at.After-share c.if-not-share.false).1 in
     let free = closed-free (closed at.After-set_page) c.requires.part.parent in
-    omega (
+    ok-unless_err _ (λ e err. omega (
       arith,
-      c.in-Err.ensures.full,
+      rw err at c.map.ensures.full,
       next-fits before.space before.small (omega (arith, c.requires.room, free, c.if-not-share.ensures.fewer)),
-    )
+    ))
 
 pub returns : goal.returns
 returns c =
     let at = goal.at.returns c in
     let leaf = at.After-closed_leaf-closed in
-    let m = c.in-Ok.ensures in
+    let m = rw c.unwrap-2.ensures at c.map.ensures in
     let before = (both at.After-share c.if-not-share.false).1 in
     part-more c.requires.part c.requires.page (closed at.After-set_page) (made leaf).frame c.share.ensures.valid
     c.if-not-share.ensures.done c.share.ensures.list
