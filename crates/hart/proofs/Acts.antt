@@ -1,6 +1,7 @@
 -- Operations without an access, and those with one.
 use Rattle.hart.proofs.Common.{Ram, Access, Acts, Answers, ap, Behind, Bool, Cause, Effect, Err, false, given, Hart}
 use Rattle.hart.proofs.Common.{At, Held, KeepsWords, Operates, seen_in, Stored, ◌==◌}
+use Rattle.hart.proofs.Common.{eq-eqb, IsLive, KeepsLive, ne_eqb, seen_live, slice_index, ◌%◌, ◌≢◌}
 use Rattle.ram.specs.declared.FrameNo.{FrameNo}
 use Rattle.hart.proofs.Common.{if◌then◌else◌, inl, IsAnswer, IsKept, Leaves, length, List, Next, None, Ok, Op, op_by}
 use Rattle.hart.proofs.Common.{Option, option_map, Page, place_in, refl, seen, Sight, Stop, stored, sym, trap, true}
@@ -55,12 +56,30 @@ module _ {held held' : Held} {meaning : Sight → Effect} {pc : ℕ} {old new : 
     count = acts.count;
   }
 
-  pub acts-in : (next : Next) (f : ℕ) → Acts held held' meaning next pc old new ram ram'
-      → Acts held held' meaning (seen_in next f) pc old new ram ram'
-  acts-in Behind f acts = acts
-  acts-in (Stored g part) f acts = acts-if (g.0 == f) acts
-  acts-in (At to) f acts = acts
-  acts-in (Stop t) f acts = acts
+  pub acts-live : (next : Next) (frames : List ℕ) → Acts held held' meaning next pc old new ram ram'
+      → Acts held held' meaning (seen_live next frames) pc old new ram ram'
+  acts-live Behind frames acts = acts
+  acts-live (Stored g part) frames acts = acts-if (slice_index frames (g.0 % 32) == g.0) acts
+  acts-live (At to) frames acts = acts
+  acts-live (Stop t) frames acts = acts
+
+-- a store that isn't reported is to no frame whose page is known
+keeps-if : (frames : List ℕ) (f : ℕ) (g : FrameNo) (part : ℕ) (ram ram' : Ram) (b : Bool)
+    → (slice_index frames (g.0 % 32) == g.0) ≡ b → IsLive frames f → KeepsWords (seen_in (Stored g part) f) f ram ram'
+    → KeepsWords (seen_in (if b then Stored g part else Behind) f) f ram ram'
+keeps-if frames f g part ram ram' true is live keeps = keeps
+keeps-if frames f g part ram ram' false is live keeps =
+    let other : g.0 ≢ f = λ same.
+    (let yes : (slice_index frames (g.0 % 32) == g.0) ≡ true = rw same (eq-eqb _ _ live) in cc (is, yes)) in
+    rw (ne_eqb g.0 f other) at keeps
+
+pub keeps-live : (next : Next) (frames : List ℕ) (ram ram' : Ram)
+    → ((f : ℕ) → KeepsWords (seen_in next f) f ram ram') → KeepsLive (seen_live next frames) frames ram ram'
+keeps-live Behind frames ram ram' only f live = only f
+keeps-live (Stored g part) frames ram ram' only f live =
+    keeps-if frames f g part ram ram' (slice_index frames (g.0 % 32) == g.0) refl live (only f)
+keeps-live (At to) frames ram ram' only f live = only f
+keeps-live (Stop t) frames ram ram' only f live = only f
 
 -- ---- operations without an access
 

@@ -1,13 +1,15 @@
 -- Words of a page and their operations.
-use Rattle.hart.proofs.Common.{cases_eq, get_or-set_other, get_or-set_same, inl, inr, instruction_of, IsOp, length}
-use Rattle.hart.proofs.Common.{List, Op, op_by, refl, slice_index, slice_index_or, slice_set, subst, sym, ℕ, ◌<◌, ◌≡◌}
-use Rattle.hart.proofs.Common.{and_parts, eqb-true, ◌&&◌, ◌==◌}
-use Rattle.hart.proofs.Common.{AreChecked, AreNow, arith, Bool, cases_lt, false, KeepsWords, Next, None, part_of, Ram}
-use Rattle.hart.proofs.Common.{Some, true, word_of, ◌*◌, ◌+◌, ◌/◌, ◌∙◌, ◌≢◌, ◌≤◌, ◌⊎◌}
+use Rattle.hart.proofs.Common.{and_parts, ap, AreChecked, AreNow, arith, Bool, cases_eq, cases_lt, eqb-true, false}
+use Rattle.hart.proofs.Common.{get_or-set_other, get_or-set_same, inl, inr, instruction_of, IsLive, IsOp, length, List}
+use Rattle.hart.proofs.Common.{Op, op_by, Ram, refl, slice_index, slice_index_or, slice_set, StayLive, subst, sym, true}
+use Rattle.hart.proofs.Common.{word_of, ℕ, ◌%◌, ◌&&◌, ◌*◌, ◌+◌, ◌<◌, ◌==◌, ◌∙◌, ◌≡◌, ◌≢◌, ◌≤◌, ◌⊎◌}
 use Rattle.std.proofs.Math.ListN.{replicate}
 use Rattle.std.proofs.lemmas.List.{get_or-replicate}
+use Rattle.hart.specs.Known.{AreKnown, IsPage}
 use Rattle.hart.specs.Operations.{AreDecoded}
+use Rattle.hart.specs.declared.live.Set.{Set}
 use Rattle.hart.specs.declared.operation.Op.TheVariants as op
+use Rattle.hart.specs.declared.page.Page.{Page}
 
 -- the word 0 is no instruction
 none_decoded : IsOp op.Illegal 0
@@ -109,23 +111,113 @@ part-checked words words' ram f parts part now others before p below marked k si
       ]
 ]
 
--- a part was stored to
-pub part-stored : (next : Next) (words : List ℕ) (ram ram' : Ram) (f : ℕ) (parts : List Bool) {part : ℕ}
-    → length parts ≡ 32 → part < 32 → part_of next ≡ Some part → KeepsWords next f ram ram'
-    → AreChecked words ram f parts → AreChecked words ram' f (slice_set parts part false)
-part-stored next words ram ram' f parts {part} long within is keeps before p below marked k since less =
-    elim (cases_eq p part) [
+pub stay-then : (f : ℕ) (frames frames' frames'' : List ℕ) (ram ram' ram'' : Ram) → StayLive f frames frames' ram ram'
+    → StayLive f frames' frames'' ram' ram'' → StayLive f frames frames'' ram ram''
+stay-then f frames frames' frames'' ram ram' ram'' before after g fits other live =
+    let now = after g fits other live in
+    let past = before g fits other now.0 in
+    (past.0, λ k. now.1 k ∙ past.1 k)
+
+-- ---- pages that are known
+
+none-live : (g : ℕ) → g < 4294967295 → slice_index (replicate 32 4294967295) (g % 32) ≡ g → ⊥
+none-live g fits live =
+    let none : slice_index (replicate 32 4294967295) (g % 32) ≡ 4294967295 =
+    get_or-replicate 32 (g % 32) 4294967295 0 (omega arith) in
+    let same : g ≡ 4294967295 = sym live ∙ none in
+    omega (arith, fits, same)
+
+pub none-known : (sets : List Set) (pages : List Page) (ram : Ram)
+    → AreKnown (replicate 32 4294967295) sets pages ram
+none-known sets pages ram f fits live at is d = absurd (none-live f fits live)
+
+module _ (frames : List ℕ) (f : ℕ) where
+  pub noted : length frames ≡ 32 → IsLive (slice_set frames (f % 32) f) f
+  noted long = get_or-set_same frames (f % 32) f 0 (omega (arith, long))
+
+  -- of its number there is no other
+  noted-same : (g : ℕ) → length frames ≡ 32 → g % 32 ≡ f % 32 → IsLive (slice_set frames (f % 32) f) g → g ≡ f
+  noted-same g long same live =
+      sym live ∙ subst (λ i. slice_index (slice_set frames (f % 32) f) i ≡ f) (sym same) (noted long)
+
+  noted-other : (g : ℕ) → g % 32 ≢ f % 32 → IsLive (slice_set frames (f % 32) f) g → IsLive frames g
+  noted-other g other live = sym (get_or-set_other frames (f % 32) (g % 32) f 0 other) ∙ live
+
+-- one alone is known
+pub stays-alone : (f : ℕ) (frames : List ℕ) (ram ram' : Ram)
+    → StayLive f frames (slice_set (replicate 32 4294967295) (f % 32) f) ram ram'
+stays-alone f frames ram ram' g fits other live = elim (cases_eq (g % 32) (f % 32)) [
+  | inl same ↦ absurd (other (noted-same (replicate 32 4294967295) f g refl same live))
+  | inr apart ↦ absurd (none-live g fits (noted-other (replicate 32 4294967295) f g apart live))
+]
+
+pub no_pages : Set
+no_pages = record { frames = replicate 2 0; last = 0; within = omega arith }
+
+pub last-set : (sets : List Set) (i : ℕ) (s d : Set) → i < length sets
+    → (slice_index_or (slice_set sets i s) i d).last ≡ s.last
+last-set sets i s d within = ap (λ (t : Set). t.last) (get_or-set_same sets i s d within)
+
+-- the pages of two frames
+module _ (sets : List Set) (s : Set) (f g : ℕ) {at at' : ℕ} (is : IsPage sets f at) (is' : IsPage sets g at') where
+  place-same : g % 32 ≡ f % 32 → at' ≡ at
+  place-same same =
+      is' s ∙ subst (λ i. 2 * i + (slice_index_or sets i s).last ≡ at) (sym same) (sym (is s))
+
+  place-other : g % 32 ≢ f % 32 → at' ≢ at
+  place-other other same =
+      omega (
+        arith,
+        other,
+        same,
+        is s,
+        is' s,
+        (slice_index_or sets (f % 32) s).within,
+        (slice_index_or sets (g % 32) s).within,
+      )
+
+-- a page of a frame is known now
+pub placed-known : (frames : List ℕ) (sets : List Set) (pages : List Page) (ram : Ram) (f at : ℕ) (s : Set) (p : Page)
+    → length frames ≡ 32 → at < length pages → IsPage (slice_set sets (f % 32) s) f at
+    → AreChecked p.words ram f p.parts → AreKnown frames sets pages ram
+    → AreKnown (slice_set frames (f % 32) f) (slice_set sets (f % 32) s) (slice_set pages at p) ram
+placed-known frames sets pages ram f at s p long within is checked before g fits live at' is' d =
+    elim (cases_eq (g % 32) (f % 32)) [
       | inl same ↦
-          let unmarked : slice_index_or (slice_set parts part false) part false ≡ false =
-          get_or-set_same parts part false false (rw long within) in
-          absurd (cc (subst (λ i. slice_index_or (slice_set parts part false) i false ≡ true) same marked, unmarked))
+          let frame : g ≡ f = noted-same frames f g long same live in
+          let place : at' ≡ at = place-same (slice_set sets (f % 32) s) s f g is is' same in
+          let page : slice_index_or (slice_set pages at p) at' d ≡ p =
+          subst (λ i. slice_index_or (slice_set pages at p) i d ≡ p) (sym place)
+          (get_or-set_same pages at p d within) in
+          rw (page, frame) checked
       | inr other ↦
-          let apart : part_of next ≡ Some (k / 32) → ⊥ = λ e.
-          (let same : part ≡ k / 32 = cc (is, e) in other (omega (arith, same, since, less))) in
-          before p below (marked-other parts part p false other marked) k since less ∙ sym (keeps k apart)
+          let apart = place-other (slice_set sets (f % 32) s) s f g is is' other in
+          let page : slice_index_or (slice_set pages at p) at' d ≡ slice_index_or pages at' d =
+          get_or-set_other pages at at' p d apart in
+          let there : IsPage sets g at' = λ e. subst (λ (t : Set). at' ≡ 2 * (g % 32) + t.last)
+          (get_or-set_other sets (f % 32) (g % 32) s e other) (is' e) in
+          rw page (before g fits (noted-other frames f g other live) at' there d)
     ]
 
-pub none-stored : (next : Next) (words : List ℕ) (ram ram' : Ram) (f : ℕ) (parts : List Bool)
-    → part_of next ≡ None → KeepsWords next f ram ram' → AreChecked words ram f parts → AreChecked words ram' f parts
-none-stored next words ram ram' f parts is keeps before p below marked k since less =
-    before p below marked k since less ∙ sym (keeps k (λ e. cc (is, e)))
+-- operations of a page were done
+pub still-known : (frames frames' : List ℕ) (sets : List Set) (s : Set) (pages : List Page) (ram ram' : Ram)
+    (f at : ℕ) (p : Page) → at < length pages → IsPage sets f at → IsLive frames f
+    → StayLive f frames frames' ram ram' → AreChecked p.words ram' f p.parts → AreKnown frames sets pages ram
+    → AreKnown frames' sets (slice_set pages at p) ram'
+still-known frames frames' sets s pages ram ram' f at p within is live stay checked before g fits live' at' is' d =
+    elim (cases_eq g f) [
+      | inl same ↦
+          let place : at' ≡ at = place-same sets s f g is is' (ap (λ n. n % 32) same) in
+          let page : slice_index_or (slice_set pages at p) at' d ≡ p =
+          subst (λ i. slice_index_or (slice_set pages at p) i d ≡ p) (sym place)
+          (get_or-set_same pages at p d within) in
+          rw (page, same) checked
+      | inr other ↦
+          let stays = stay g fits other live' in
+          let sets-apart : g % 32 ≢ f % 32 = λ same. other (sym stays.0
+          ∙ subst (λ i. slice_index frames i ≡ f) (sym same) live) in
+          let page : slice_index_or (slice_set pages at p) at' d ≡ slice_index_or pages at' d =
+          get_or-set_other pages at at' p d (place-other sets s f g is is' sets-apart) in
+          rw page (λ part below marked k since less.
+          before g fits stays.0 at' is' d part below marked k since less ∙ sym (stays.1 k))
+    ]

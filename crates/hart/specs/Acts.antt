@@ -1,6 +1,8 @@
 -- What operations leave, and where a hart goes on after them.
-use Rattle.std.specs.Prelude.{ℕ, ◌≡◌, ◌*◌, ◌/◌, ◌==◌, if◌then◌else◌, List, Option, Some, None, MatchResult, length}
+use Rattle.std.specs.Prelude.{ℕ, ◌≡◌, ◌*◌, ◌/◌, ◌==◌, ◌%◌, if◌then◌else◌, List, Option, Some, None, MatchResult, length}
+use Rattle.std.specs.Prelude.{slice_index}
 use Rattle.ram.specs.Memory.{word_of}
+use Rattle.ram.specs.declared.FrameNo.{FrameNo}
 use Rattle.unixmodel.specs.declared.trap.Trap.{Trap}
 use Rattle.unixmodel.specs.Meaning.{Effect}
 use Rattle.unixmodel.specs.Meaning.Change.{Nothing}
@@ -39,6 +41,13 @@ part_of (Stored f part) = Some part
 part_of (At target) = None
 part_of (Stop t) = None
 
+-- the frame that was stored to, and its part
+abbrev pub store_of : Next → Option (FrameNo × ℕ)
+store_of Behind = None
+store_of (Stored f part) = Some (f, part)
+store_of (At target) = None
+store_of (Stop t) = None
+
 -- of stores only one to this frame
 abbrev pub seen_in : Next → ℕ → Next
 seen_in Behind f = Behind
@@ -46,10 +55,25 @@ seen_in (Stored g part) f = if g.0 == f then Stored g part else Behind
 seen_in (At target) f = At target
 seen_in (Stop t) f = Stop t
 
+-- whether a frame's page is known: of each number modulo 32 there is one in the table
+abbrev pub IsLive : List ℕ → ℕ → Type 0
+IsLive frames f = slice_index frames (f % 32) ≡ f
+
+-- of stores only those to frames whose pages are known
+abbrev pub seen_live : Next → List ℕ → Next
+seen_live Behind frames = Behind
+seen_live (Stored g part) frames = if slice_index frames (g.0 % 32) == g.0 then Stored g part else Behind
+seen_live (At target) frames = At target
+seen_live (Stop t) frames = Stop t
+
 -- the words of a frame are as they were, except for those of a part that was stored to
 abbrev pub KeepsWords : Next → ℕ → List (List ℕ) → List (List ℕ) → Type 0
 KeepsWords next f ram ram' = (k : ℕ) → (part_of next ≡ Some (k / 32) → ⊥)
     → word_of ram' f (4 * k) 4 ≡ word_of ram f (4 * k) 4
+
+-- the same of each frame whose page is known
+abbrev pub KeepsLive : Next → List ℕ → List (List ℕ) → List (List ℕ) → Type 0
+KeepsLive next frames ram ram' = (f : ℕ) → IsLive frames f → KeepsWords (seen_in next f) f ram ram'
 
 -- The registers and the pc are the effect's, and it writes no memory. A trap leaves the hart as it was.
 abbrev pub Turns : Effect → Next → ℕ → Hart → Hart → Type 0

@@ -1,6 +1,7 @@
 pub mod Sizes
 pub mod Changes
 pub mod Follows
+pub mod Known
 pub mod Answered
 pub mod Operations
 pub mod Acts

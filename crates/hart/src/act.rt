@@ -6,13 +6,14 @@ ghost use Rattle.std.specs.Prelude.{slice_index, length, IfSome, MatchResult};
 ghost use Rattle.unixmodel.specs.Meaning.{jump, set_register, write};
 ghost use Rattle.unixmodel.specs.Numbers.{extend};
 ghost use Rattle.unixmodel.specs.Translation.{HoldsInside};
-ghost use Rattle.hart.specs.Acts.{Operates, Turns, goes_to, part_of, pc_after, seen_in, trap_of};
+ghost use Rattle.hart.specs.Acts.{Operates, Turns, goes_to, pc_after, seen_live, store_of, trap_of};
 ghost use Rattle.hart.specs.Answered.{load_by, store_by};
 ghost use Rattle.hart.specs.Stops.{pc_at};
 ghost use Rattle.hart.specs.Operations.{by_branch, by_registers, by_words, offset_by, op_by};
 
 use crate::access::{is_aligned, load_size, load_value, locate, place, store_size, store_value};
 use crate::in_page::{InPage, Part};
+use crate::live::Live;
 use crate::operation::{Op, Target};
 use crate::state::Hart;
 use crate::{alu, bits};
@@ -86,15 +87,15 @@ impl Next {
         }
     }
 
-    /// The same, but of stores only one to frame `f` is reported.
+    /// The same, but of stores only one to a frame whose page is known is reported.
     #[inline(always)]
-    pub fn seen_in(self, f: FrameNo) -> Next
-        ensures { result ≡ seen_in self f.0 }
+    pub fn seen_live(self, live: &Live) -> Next
+        ensures { result ≡ seen_live self live.now.frames }
     {
         match self {
             Next::Behind => Next::Behind,
             Next::Stored(g, part) => {
-                if g.0 == f.0 {
+                if live.has(g.0) {
                     Next::Stored(g, part)
                 } else {
                     Next::Behind
@@ -105,14 +106,14 @@ impl Next {
         }
     }
 
-    /// The part that was stored to.
+    /// The frame and its part that were stored to.
     #[inline(always)]
-    pub fn stored(&self) -> Option<Part>
-        ensures { result ≡ part_of self.now }
+    pub fn stored(&self) -> Option<(FrameNo, Part)>
+        ensures { result ≡ store_of self.now }
     {
         match *self {
             Next::Behind => None,
-            Next::Stored(_, part) => Some(part),
+            Next::Stored(f, part) => Some((f, part)),
             Next::At(_) => None,
             Next::Stop(_) => None,
         }

@@ -4,20 +4,22 @@
 //! references of their own, and the index in the page as a local. A jump in the page leads to another index, and a
 //! hart's pc is written where the page is left.
 ghost use Rattle.std.specs.Prelude.{◌≡◌, ◌%◌, ◌/◌, ◌<◌, ◌≤◌, ◌+◌, ◌-◌, ◌*◌, ℕ, Err, IfNone, IfSome, List, None, Some};
-ghost use Rattle.std.specs.Prelude.{false, length, slice_index};
+ghost use Rattle.std.specs.Prelude.{false, length, slice_index, vec_len};
 ghost use Rattle.unixmodel.specs.Translation.{HoldsInside};
 ghost use Rattle.unixmodel.specs.Words.{instruction_of};
 ghost use Rattle.sv39.specs.Mapping.{Mapped, frame_for};
-ghost use Rattle.hart.specs.Acts.{Acts, KeepsWords, goes_to, trap_of};
+ghost use Rattle.hart.specs.Acts.{Acts, IsLive, KeepsLive, goes_to, trap_of};
 ghost use Rattle.hart.specs.Answered.{word_by};
-ghost use Rattle.hart.specs.Checked.{AreChecked, AreNow};
+ghost use Rattle.hart.specs.Checked.{AreChecked, AreNow, StayLive};
 ghost use Rattle.hart.specs.Runs.{GoesOn, MovesOn, StaysWhole, point_at, point_of};
 ghost use Rattle.hart.specs.Stops.{AreFree, EndsAt, IsBehind, IsClear, is_stop, pc_at};
 
 use crate::access::locate;
 use crate::act::{Aligned, Next};
-use crate::decoded::{Checked, Decoded, Page};
+use crate::decoded::{Decoded, Pages};
 use crate::in_page::InPage;
+use crate::live::Live;
+use crate::page::Page;
 use crate::state::Hart;
 use crate::stops::{Known, Stops, Stretch};
 use ram::{FrameNo, Ram};
@@ -104,12 +106,12 @@ fn within(k: usize, known: Known) -> Option<(usize, Known)>
 }
 
 impl Hart {
-    // Does the operation of word `k` of the page at address `base`. Of stores only one to frame `f` is reported.
+    // Does the operation of word `k` of the page at address `base`. Of stores only those to known pages are reported.
     #[inline(always)]
     fn obey<T: Translate, S>(
         &mut self,
         page: &Page,
-        f: FrameNo,
+        live: &Live,
         base: u64,
         k: usize,
         ram: &mut Ram,
@@ -120,19 +122,20 @@ impl Hart {
         ensures acts { Acts (T.held trans.old) (T.held trans.new)
             (word_by (instruction_of (slice_index page.now.words k)) self.old.registers (pc_at base k))
             result (pc_at base k) self.old self.new ram.old ram.new }
-        ensures words { KeepsWords result f.0 ram.old ram.new }
+        ensures words { KeepsLive result live.now.frames ram.old ram.new }
     {
         let next = self.act::<T, S>(page.op(k), InPage { base, index: k }, ram, trans);
-        next.seen_in(f)
+        next.seen_live(live)
     }
 
     // Does operations of the page at `base`, which has frame `f`, from one index to another or to the first that jumps
-    // or stores to the frame. Returns how many were done, and where it goes on.
+    // or stores to a known page. Returns how many were done, and where it goes on.
     #[inline(always)]
     fn straight<T: Translate, S>(
         &mut self,
         page: &Page,
         f: FrameNo,
+        live: &Live,
         base: u64,
         from: usize,
         end: usize,
@@ -142,6 +145,7 @@ impl Hart {
         requires inside { HoldsInside (T.held trans.old) ram.old }
         requires places { (from ≤ end) × (end ≤ 1024) }
         requires page { base % 4096 ≡ 0 }
+        requires live { IsLive live.now.frames f.0 }
         requires now { AreNow page.now.words ram.old f.0 from end }
         ensures goes { (mapping : List Mapped) (stops : List ℕ)
             → frame_for mapping (base / 4096) Access.Fetch ≡ Some f.0 → IsClear stops base from (from + result.0) →
@@ -149,14 +153,14 @@ impl Hart {
             (point_at self.old (pc_at base from) ram.old)
             (point_at self.new (goes_to (pc_at base (from + result.0)) result.1) ram.new) result.0
             (trap_of result.1) }
-        ensures words { KeepsWords result.1 f.0 ram.old ram.new }
+        ensures words { KeepsLive result.1 live.now.frames ram.old ram.new }
         ensures whole { StaysWhole (T.held trans.new) self.old self.new ram.old ram.new }
         ensures within { from + result.0 ≤ end }
         ensures moves { MovesOn (end - from) result.0 result.1 }
     {
         for k in from..end {
             ram.frames_are_whole();
-            match self.obey::<T, S>(page, f, base, k, ram, trans) {
+            match self.obey::<T, S>(page, live, base, k, ram, trans) {
                 Next::Behind => {}
                 Next::Stored(g, part) => return (k - from + 1, Next::Stored(g, part)),
                 Next::At(to) => return (k - from + 1, Next::At(to)),
@@ -167,12 +171,13 @@ impl Hart {
     }
 
     // Does at most `count` operations of the page of the pc, which is at `base` and has frame `f`, until a jump leaves
-    // the page, up to a stop. Returns how many are left, and a trap.
+    // the page, up to a stop. Returns how many are left, and a trap. What is known of pages still holds.
     #[inline(never)]
     fn run_page<T: Translate, S: Stops>(
         &mut self,
         page: &mut Page,
         f: FrameNo,
+        live: &mut Live,
         base: u64,
         ram: &mut Ram,
         trans: &mut T,
@@ -183,6 +188,10 @@ impl Hart {
         requires frame { f.0 < length ram.old }
         requires start { base ≡ self.old.pc / 4096 * 4096 }
         requires some { 0 < count }
+        requires live { IsLive live.old.frames f.0 }
+        requires checked { AreChecked page.old.words ram.old f.0 page.old.parts }
+        ensures checked { AreChecked page.new.words ram.new f.0 page.new.parts }
+        ensures others { StayLive f.0 live.old.frames live.new.frames ram.old ram.new }
         ensures goes { (mapping : List Mapped) → frame_for mapping (self.old.pc / 4096) Access.Fetch ≡ Some f.0 →
             GoesOn (T.held trans.old) (T.held trans.new) self.old.root.0 mapping (S.addresses stops.now)
             (point_of self.old ram.old) (point_of self.new ram.new) (count - result.0) result.1 }
@@ -193,7 +202,6 @@ impl Hart {
         ensures behind { IfSome result.1
             (λ t. IsBehind (S.addresses stops.now) (count - result.0) self.old.pc self.new.pc) }
     {
-        let mut checked = Checked::new();
         let mut k = (self.pc % 4096 / 4) as usize;
         let mut free = Known {
             here: Stretch {
@@ -205,10 +213,10 @@ impl Hart {
         // where the count ends, if no operation jumps
         let mut limit = k + count as usize;
         while k < limit {
-            let known = checked.reach(page, ram, f, k);
+            let known = page.reach(ram, f, k);
             let end = first_of(k, limit, first_of(k, free.here.to, known));
-            let (done, next) = self.straight::<T, S>(page, f, base, k, end, ram, trans);
-            checked.heed(&next);
+            let (done, next) = self.straight::<T, S>(page, f, live, base, k, end, ram, trans);
+            page.heed(f, &next, live);
             let at = k + done;
             let left = limit - at;
             let Some((index, stretches)) = onward(stops, base, at, &next, free) else {
@@ -244,6 +252,32 @@ impl Hart {
         ensures trap { IfSome result.1 (λ t. result.0 < count) }
         ensures behind { IfSome result.1 (λ t. IsBehind (S.addresses stops.now) result.0 self.old.pc self.new.pc) }
     {
+        self.run_pages(ram, trans, &mut decoded.pages, count, stops)
+    }
+
+    // The same, on the pages.
+    #[inline(always)]
+    fn run_pages<T: Translate, S: Stops>(
+        &mut self,
+        ram: &mut Ram,
+        trans: &mut T,
+        pages: &mut Pages,
+        count: u32,
+        stops: &S,
+    ) -> (u32, Option<Trap>)
+        requires inside { HoldsInside (T.held trans.old) ram.old }
+        requires many { vec_len pages.old.all ≡ 64 }
+        ensures many { vec_len pages.new.all ≡ 64 }
+        ensures goes { (mapping : List Mapped)
+            → GoesOn (T.held trans.old) (T.held trans.new) self.old.root.0 mapping (S.addresses stops.now)
+            (point_of self.old ram.old) (point_of self.new ram.new) result.0 result.1 }
+        ensures whole { StaysWhole (T.held trans.new) self.old self.new ram.old ram.new }
+        ensures within { result.0 ≤ count }
+        ensures ends { IfNone result.1 (EndsAt (S.addresses stops.now) count result.0 self.new.pc) }
+        ensures trap { IfSome result.1 (λ t. result.0 < count) }
+        ensures behind { IfSome result.1 (λ t. IsBehind (S.addresses stops.now) result.0 self.old.pc self.new.pc) }
+    {
+        let mut live = Live::new();
         let mut left = count;
         while left > 0 {
             let Some(f) = locate(trans, ram, self.root, self.pc, Access::Fetch) else {
@@ -253,10 +287,13 @@ impl Hart {
                 };
                 return (count - left, Some(trap));
             };
+            ram.frames_are_whole();
             let base = self.pc / 4096 * 4096;
+            let at = pages.place(f.0, &mut live);
             let (rest, stopped) = self.run_page(
-                decoded.page(f.0),
+                &mut pages.all[at],
                 f,
+                &mut live,
                 base,
                 ram,
                 trans,

@@ -1,7 +1,8 @@
 use Rattle.hart.proofs.Common.{arith, GoesOn, goes_to, IsClear, List, Mapped, Fetch, frame_for, None, pc_at, point_at}
-use Rattle.hart.proofs.Common.{refl, Some, sym, trap_of, ℕ, ◌+◌, ◌-◌, ◌/◌, ◌<◌, ◌≡◌, ◌≤◌}
+use Rattle.hart.proofs.Common.{refl, Some, StayLive, sym, trap_of, ℕ, ◌+◌, ◌-◌, ◌/◌, ◌<◌, ◌≡◌, ◌≤◌}
 use Rattle.hart.proofs.Straight.{free-clear, if-none, if-some, left-begins, left-on, moves-some, page-then, pc-of}
 use Rattle.hart.proofs.Straight.{stop-behind, stops-early, stops-there}
+use Rattle.hart.proofs.Pages.{stay-then}
 use Rattle.hart.proofs.state.Hart.run_page.Given as given
 use Rattle.hart.proofs.state.Hart.run_page.Goals as goal
 use Rattle.hart.proofs.state.Hart.run_page.Goals.{After-straight-done}
@@ -29,6 +30,13 @@ some : (g : given.Over) (c : After-straight-done g) → trap_of c.straight-done.
 some g c none = moves-some c.straight-done.result.1 c.straight-done.ensures.moves none
     (omega (arith, c.first_of-end.ensures.after))
 
+-- what is known of other pages
+stayed : (g : given.Over) (c : After-straight-done g) (frames : List ℕ)
+    → StayLive c.args.f.0 c.loop-k.live.frames frames c.loop-k.ram c.straight-done.new.ram
+    → StayLive c.args.f.0 c.args.live.now.frames frames c.args.ram.now c.straight-done.new.ram
+stayed g c frames = stay-then c.args.f.0 c.args.live.now.frames c.loop-k.live.frames frames c.args.ram.now c.loop-k.ram
+    c.straight-done.new.ram c.loop-k.invariant.others
+
 pub loop-k-init : goal.loop-k-init
 loop-k-init g c = record {
   goes = left-begins _ _ c.requires.inside
@@ -44,7 +52,9 @@ loop-k-init g c = record {
   };
   since = omega arith;
   before = omega arith;
-  checked = c.new-checked.ensures _ _ _;
+  checked = c.requires.checked;
+  live = c.requires.live;
+  others = λ h fits other live. (live, λ k. refl);
 }
 
 pub straight-done-requires-clause-now : goal.straight-done-requires-clause-now
@@ -74,7 +84,9 @@ loop-k-preserved g c =
       free = c.in-Some.ensures.free;
       since = omega (arith, c.in-Some.ensures.inside.0);
       before = c.in-Some.ensures.inside.1;
-      checked = c.heed.ensures _ _ _ _ c.straight-done.ensures.words c.reach-known.ensures.checked;
+      checked = c.heed.ensures.checked _ _ c.straight-done.ensures.words c.reach-known.ensures.checked;
+      live = c.heed.ensures.live;
+      others = stayed g after c.heed.new.live.frames (c.heed.ensures.others _ _ c.straight-done.ensures.words);
     }
 
 pub returns-in_default-clause-goes : goal.returns-in_default-clause-goes
@@ -85,6 +97,15 @@ returns-in_default-clause-goes g c =
     (goes_to (pc_at c.args.base (c.loop-k.k + c.straight-done.result.0)) c.straight-done.result.1)
     c.straight-done.new.ram (trap_of c.straight-done.result.1) c.loop-k.invariant.goes c.requires.start refl
     (omega (arith, c.straight-done.ensures.within, c.first_of-end.ensures.limit)) (went g after))
+
+pub returns-in_default-clause-checked : goal.returns-in_default-clause-checked
+returns-in_default-clause-checked g c =
+    c.heed.ensures.checked _ _ c.straight-done.ensures.words c.reach-known.ensures.checked
+
+pub returns-in_default-clause-others : goal.returns-in_default-clause-others
+returns-in_default-clause-others g c =
+    stayed g (goal.at.returns-in_default-clause-others g c).After-straight-done c.heed.new.live.frames
+    (c.heed.ensures.others _ _ c.straight-done.ensures.words)
 
 pub returns-in_default-clause-fewer : goal.returns-in_default-clause-fewer
 returns-in_default-clause-fewer g c = rw c.trap.ensures (if-none _ _ (λ none.

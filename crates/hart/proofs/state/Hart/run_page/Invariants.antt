@@ -1,5 +1,5 @@
 use Rattle.std.proofs.Common.{◌+◌, ◌-◌, ◌<◌, ◌≤◌}
-use Rattle.hart.proofs.Common.{AreChecked, AreFree, pc_at}
+use Rattle.hart.proofs.Common.{AreChecked, AreFree, IsLive, pc_at, StayLive}
 use Rattle.hart.proofs.Straight.{GoesLeft}
 use Rattle.hart.proofs.state.Hart.run_page.Given as goal
 
@@ -13,7 +13,9 @@ invariant-loop-k g l = record {
   free : AreFree (g.S.Stops.addresses l.stops) l.base l.free;
   since : l.free.here.from ≤ l.k + 1;
   before : l.k < l.free.here.to;
-  checked : AreChecked l.page.words l.ram l.f.0 l.checked.parts;
+  checked : AreChecked l.page.words l.ram l.f.0 l.page.parts;
+  live : IsLive l.live.frames l.f.0;
+  others : StayLive l.f.0 l.fn.live.frames l.live.frames l.fn.ram l.ram;
 }
 
 abbrev pub decreases-loop-k : goal.decreases-loop-k

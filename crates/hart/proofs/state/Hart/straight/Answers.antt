@@ -14,19 +14,21 @@ acted : (g : given.Over) (c : After-obey g)
     c.loop-k.ram c.obey.new.ram
 acted g c =
     let k = c.loop-k.k in
-    acts-at c.args.f.0 (c.requires.now k c.loop-k.auto.k c.loop-k-test.true ∙ sym (c.loop-k.invariant.words k)
+    let words = c.loop-k.invariant.words c.args.f.0 c.requires.live k in
+    acts-at c.args.f.0 (c.requires.now k c.loop-k.auto.k c.loop-k-test.true ∙ sym words
     ∙ word-at c.loop-k.ram c.args.f.0 k c.requires.page (omega (arith, c.ranges.base.fits))
     (omega (arith, c.loop-k-test.true, c.requires.places.1))) c.obey.ensures.acts
 
 pub loop-k-init : goal.loop-k-init
-loop-k-init g c = record { done = straight-begins c.requires.inside; words = λ k. refl }
+loop-k-init g c = record { done = straight-begins c.requires.inside; words = λ f live k. refl }
 
 pub loop-k-preserved : goal.loop-k-preserved
 loop-k-preserved g c = record {
   done = straight-more c.frames_are_whole.ensures.memory c.requires.page (omega (arith, c.ranges.base.fits))
       (omega (arith, c.loop-k-test.true, c.requires.places.1)) c.loop-k.auto.k c.loop-k.invariant.done
       (rw c.in-Behind.is at (acted g (goal.at.loop-k-preserved g c).After-obey));
-  words = λ k. (rw c.in-Behind.is at c.obey.ensures.words) k (λ e. cc) ∙ c.loop-k.invariant.words k;
+  words = λ f live k. (rw c.in-Behind.is at c.obey.ensures.words) f live k (λ e. cc)
+      ∙ c.loop-k.invariant.words f live k;
 }
 
 -- one more is done, and it jumps or stores
@@ -40,8 +42,8 @@ returns-in-Stored-clause-goes g c = λ mapping stops at clear.
     mapping stops at c.frames_are_whole.ensures.memory refl c.loop-k.auto.k (rw there at clear))
 
 pub returns-in-Stored-clause-words : goal.returns-in-Stored-clause-words
-returns-in-Stored-clause-words g c = λ k other.
-    (rw c.in-Stored.is at c.obey.ensures.words) k other ∙ c.loop-k.invariant.words k
+returns-in-Stored-clause-words g c = λ f live k other.
+    (rw c.in-Stored.is at c.obey.ensures.words) f live k other ∙ c.loop-k.invariant.words f live k
 
 pub returns-in-Stored-clause-whole : goal.returns-in-Stored-clause-whole
 returns-in-Stored-clause-whole g c = whole-after c.loop-k.invariant.done.whole c.obey.ensures.acts
@@ -55,8 +57,8 @@ returns-in-At-clause-goes g c = λ mapping stops at clear.
     mapping stops at c.frames_are_whole.ensures.memory refl c.loop-k.auto.k (rw there at clear)
 
 pub returns-in-At-clause-words : goal.returns-in-At-clause-words
-returns-in-At-clause-words g c = λ k other.
-    (rw c.in-At.is at c.obey.ensures.words) k (λ e. cc) ∙ c.loop-k.invariant.words k
+returns-in-At-clause-words g c = λ f live k other.
+    (rw c.in-At.is at c.obey.ensures.words) f live k (λ e. cc) ∙ c.loop-k.invariant.words f live k
 
 pub returns-in-At-clause-whole : goal.returns-in-At-clause-whole
 returns-in-At-clause-whole g c = whole-after c.loop-k.invariant.done.whole c.obey.ensures.acts
@@ -70,8 +72,8 @@ returns-in-Stop-clause-goes g c = λ mapping stops at clear.
     at refl (rw same at clear))
 
 pub returns-in-Stop-clause-words : goal.returns-in-Stop-clause-words
-returns-in-Stop-clause-words g c = λ k other.
-    (rw c.in-Stop.is at c.obey.ensures.words) k (λ e. cc) ∙ c.loop-k.invariant.words k
+returns-in-Stop-clause-words g c = λ f live k other.
+    (rw c.in-Stop.is at c.obey.ensures.words) f live k (λ e. cc) ∙ c.loop-k.invariant.words f live k
 
 pub returns-in-Stop-clause-whole : goal.returns-in-Stop-clause-whole
 returns-in-Stop-clause-whole g c = whole-after c.loop-k.invariant.done.whole c.obey.ensures.acts
@@ -83,4 +85,4 @@ returns-clause-goes g c = λ mapping stops at clear.
     rw (same, ← stop) (c.loop-k.invariant.done.goes mapping stops at (rw (same, ← stop) at clear))
 
 pub returns-clause-words : goal.returns-clause-words
-returns-clause-words g c = λ k other. c.loop-k.invariant.words k
+returns-clause-words g c = λ f live k other. c.loop-k.invariant.words f live k

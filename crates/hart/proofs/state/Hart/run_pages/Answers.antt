@@ -1,10 +1,11 @@
-use Rattle.hart.proofs.Common.{arith, GoesOn, inl, inr, List, Mapped, None, Option, point_of, refl, Some, subst, sym}
-use Rattle.hart.proofs.Common.{Trap, ◌+◌, ◌-◌, ◌≡◌}
+use Rattle.hart.proofs.Common.{arith, GoesOn, inl, inr, List, Mapped, None, Option, point_of, refl, rules, Some, subst}
+use Rattle.hart.proofs.Common.{sym, Trap, ◌+◌, ◌-◌, ◌≡◌}
+use Rattle.hart.proofs.Pages.{no_pages, none-known, still-known}
 use Rattle.hart.proofs.Steps.{inside-kept}
 use Rattle.hart.proofs.Straight.{behind-then, goes-none, run-faults, run-then, whole-then}
-use Rattle.hart.proofs.state.Hart.run.Given as given
-use Rattle.hart.proofs.state.Hart.run.Goals as goal
-use Rattle.hart.proofs.state.Hart.run.Goals.{After-run_page-rest}
+use Rattle.hart.proofs.state.Hart.run_pages.Given as given
+use Rattle.hart.proofs.state.Hart.run_pages.Goals as goal
+use Rattle.hart.proofs.state.Hart.run_pages.Goals.{After-run_page-rest}
 
 -- after the operations of a page
 ran : (g : given.Over) (c : After-run_page-rest g) (stopped : Option Trap) → c.run_page-rest.result.1 ≡ stopped
@@ -24,10 +25,18 @@ ran g c stopped is mapping =
 pub run_page-rest-requires-clause-inside : goal.run_page-rest-requires-clause-inside
 run_page-rest-requires-clause-inside g c = inside-kept _ c.loop-left.invariant.whole.inside c.locate.ensures.kept
 
+pub run_page-rest-requires-clause-checked : goal.run_page-rest-requires-clause-checked
+run_page-rest-requires-clause-checked g c = rw c.index_mut.ensures.value
+    (c.place-at.ensures.known c.loop-left.ram c.loop-left.invariant.known c.in-Some.f.0
+    (omega (arith, c.in-Some.ensures.inside, c.frames_are_whole.ensures.small)) c.place-at.ensures.live
+    c.place-at.result c.place-at.ensures.page _)
+
 pub loop-left-init : goal.loop-left-init
 loop-left-init g c = record {
   bounded = omega arith;
-  whole = record { inside = c.requires; count = refl; root = refl };
+  many = c.requires.many;
+  known = rw c.new-live.ensures (none-known _ _ _);
+  whole = record { inside = c.requires.inside; count = refl; root = refl };
   behind = inr (omega arith, refl);
   goes = λ mapping. goes-none (omega arith);
 }
@@ -38,6 +47,12 @@ loop-left-preserved g c =
     let fewer = rw c.in_default-stopped.is at c.run_page-rest.ensures.fewer in
     record {
       bounded = omega (arith, c.run_page-rest.ensures.within, before.bounded);
+      many = c.place-at.ensures.many;
+      known = still-known c.place-at.new.live.frames c.run_page-rest.new.live.frames c.place-at.new.self.sets no_pages
+          c.place-at.new.self.all.items c.loop-left.ram c.run_page-rest.new.ram c.in-Some.f.0 c.place-at.result
+          c.run_page-rest.new.page (search rules) c.place-at.ensures.page c.place-at.ensures.live
+          c.run_page-rest.ensures.others c.run_page-rest.ensures.checked
+          (c.place-at.ensures.known c.loop-left.ram before.known);
       whole = whole-then before.whole c.run_page-rest.ensures.whole;
       behind = inl (omega (arith, before.bounded, fewer), sym c.if-has.ensures);
       goes = ran g (goal.at.loop-left-preserved g c).After-run_page-rest None c.in_default-stopped.is;

@@ -1,6 +1,6 @@
 use Rattle.hart.proofs.Common.{get_or-set_other, rules}
 use Rattle.hart.proofs.Pages.{one_decoded}
-use Rattle.hart.proofs.decoded.Page.decode.Goals as goal
+use Rattle.hart.proofs.page.Page.decode.Goals as goal
 
 pub invariant_of-self : goal.invariant_of-self
 invariant_of-self c = record {

@@ -1,5 +1,5 @@
 use Rattle.hart.proofs.Common.{arith}
-use Rattle.hart.proofs.decoded.Checked.reach.Goals as goal
+use Rattle.hart.proofs.page.Page.reach.Goals as goal
 
 pub returns-then-self-part-clause-now : goal.returns-then-self-part-clause-now
 returns-then-self-part-clause-now c = λ j since less.

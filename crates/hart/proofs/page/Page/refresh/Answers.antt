@@ -1,6 +1,6 @@
 use Rattle.hart.proofs.Common.{arith, inl, inr, refl, ◌∙◌}
 use Rattle.hart.proofs.Pages.{renewed-now, renewed-others}
-use Rattle.hart.proofs.decoded.Page.refresh.Goals as goal
+use Rattle.hart.proofs.page.Page.refresh.Goals as goal
 
 pub returns-then-has-clause-now : goal.returns-then-has-clause-now
 returns-then-has-clause-now c = c.if-has.ensures refl
@@ -9,7 +9,11 @@ pub returns-then-has-clause-others : goal.returns-then-has-clause-others
 returns-then-has-clause-others c = λ j side. refl
 
 pub loop-k-init : goal.loop-k-init
-loop-k-init c = record { now = λ j since less. absurd (omega (arith, since, less)); others = λ j side. refl }
+loop-k-init c = record {
+  now = λ j since less. absurd (omega (arith, since, less));
+  others = λ j side. refl;
+  parts = refl;
+}
 
 pub loop-k-preserved : goal.loop-k-preserved
 loop-k-preserved c = record {
@@ -18,6 +22,7 @@ loop-k-preserved c = record {
       (c.renew.ensures.is ∙ c.load_u32.ensures);
   others = renewed-others c.loop-k.self.words c.renew.new.self.words c.loop-k.k c.renew.ensures.others
       c.args.self.now.words c.loop-k.auto.k c.loop-k.invariant.others;
+  parts = c.renew.ensures.parts ∙ c.loop-k.invariant.parts;
 }
 
 pub returns-clause-now : goal.returns-clause-now

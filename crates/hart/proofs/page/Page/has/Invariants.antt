@@ -1,5 +1,5 @@
 use Rattle.hart.proofs.Common.{AreNow, true, ◌≡◌}
-use Rattle.hart.proofs.decoded.Page.has.Given as goal
+use Rattle.hart.proofs.page.Page.has.Given as goal
 
 -- the words so far
 abbrev pub invariant-loop-k : goal.invariant-loop-k

@@ -1,6 +1,6 @@
 use Rattle.hart.proofs.Common.{arith}
 use Rattle.hart.proofs.Pages.{compared}
-use Rattle.hart.proofs.decoded.Page.has.Goals as goal
+use Rattle.hart.proofs.page.Page.has.Goals as goal
 
 pub loop-k-init : goal.loop-k-init
 loop-k-init c = λ same j since less. absurd (omega (arith, since, less))

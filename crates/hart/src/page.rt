@@ -1,0 +1,155 @@
+//! The decoded words of a page.
+ghost use Rattle.std.specs.Prelude.{◌≡◌, ◌<◌, ◌≤◌, ◌+◌, ◌*◌, ◌⊎◌, ℕ, List, length, slice_index, true};
+ghost use Rattle.hart.specs.Acts.{IsLive, KeepsLive};
+ghost use Rattle.hart.specs.Checked.{AreChecked, AreNow, StayLive};
+ghost use Rattle.hart.specs.Operations.{AreDecoded, IsOp};
+
+use crate::act::Next;
+use crate::decoding::flatten;
+use crate::in_page::{PART, Part};
+use crate::live::Live;
+use crate::operation::Op;
+use ram::{FrameNo, Ram};
+
+/// How many words a page has.
+pub const WORDS: usize = 1024;
+
+/// The words of a page and their operations.
+#[derive(Drop)]
+pub struct Page {
+    pub words: [u32; WORDS],
+    pub ops: [Op; WORDS],
+    /// Which parts are known to have the words of the page's frame.
+    pub parts: [bool; WORDS / PART],
+    ghost decoded: { AreDecoded words ops },
+}
+
+impl Page {
+    #[cold]
+    #[inline(never)]
+    fn decode(&mut self, k: usize, word: u32)
+        requires { k < 1024 }
+        ensures is { slice_index self.new.words k ≡ word }
+        ensures others { (j : ℕ) → (j ≡ k → ⊥) → slice_index self.new.words j ≡ slice_index self.old.words j }
+        ensures parts { self.new.parts ≡ self.old.parts }
+    {
+        self.ops[k] = flatten(word);
+        self.words[k] = word;
+    }
+
+    // Decodes word `k` anew if it is another one now.
+    #[inline(always)]
+    fn renew(&mut self, k: usize, word: u32)
+        requires { k < 1024 }
+        ensures is { slice_index self.new.words k ≡ word }
+        ensures others { (j : ℕ) → (j ≡ k → ⊥) → slice_index self.new.words j ≡ slice_index self.old.words j }
+        ensures parts { self.new.parts ≡ self.old.parts }
+    {
+        if self.words[k] != word {
+            self.decode(k, word);
+        }
+    }
+
+    // Whether the words from one on are those of a frame, as many as a part has.
+    #[inline(always)]
+    fn has(&self, ram: &Ram, f: FrameNo, from: usize) -> bool
+        requires frame { f.0 < length ram.now }
+        requires place { from + 32 ≤ 1024 }
+        ensures { result ≡ true → AreNow self.now.words ram.now f.0 from (from + 32) }
+    {
+        let mut same = true;
+        for k in from..from + PART {
+            same &= self.words[k] == ram.load_u32(f, 4 * k);
+        }
+        same
+    }
+
+    // Decodes those of these words anew that are others in a frame.
+    fn refresh(&mut self, ram: &Ram, f: FrameNo, from: usize)
+        requires frame { f.0 < length ram.now }
+        requires place { from + 32 ≤ 1024 }
+        ensures now { AreNow self.new.words ram.now f.0 from (from + 32) }
+        ensures others { (k : ℕ) → (k < from) ⊎ (from + 32 ≤ k) →
+            slice_index self.new.words k ≡ slice_index self.old.words k }
+        ensures parts { self.new.parts ≡ self.old.parts }
+    {
+        if self.has(ram, f, from) {
+            return;
+        }
+        for k in from..from + PART {
+            self.renew(k, ram.load_u32(f, 4 * k));
+        }
+    }
+
+    /// An index after `k` up to which decoded words are those of the frame: they are checked if that is not known.
+    #[inline(always)]
+    pub fn reach(&mut self, ram: &Ram, f: FrameNo, k: usize) -> usize
+        requires frame { f.0 < length ram.now }
+        requires place { k < 1024 }
+        requires checked { AreChecked self.old.words ram.now f.0 self.old.parts }
+        ensures checked { AreChecked self.new.words ram.now f.0 self.new.parts }
+        ensures after { k < result }
+        ensures within { result ≤ 1024 }
+        ensures now { AreNow self.new.words ram.now f.0 k result }
+    {
+        let part = Part::of_word(k).number();
+        let end = PART * part + PART;
+        if self.parts[part] {
+            return end;
+        }
+        self.check(ram, f, part);
+        end
+    }
+
+    #[cold]
+    #[inline(never)]
+    fn check(&mut self, ram: &Ram, f: FrameNo, part: usize)
+        requires frame { f.0 < length ram.now }
+        requires part { part < 32 }
+        requires checked { AreChecked self.old.words ram.now f.0 self.old.parts }
+        ensures checked { AreChecked self.new.words ram.now f.0 self.new.parts }
+        ensures now { AreNow self.new.words ram.now f.0 (32 * part) (32 * part + 32) }
+    {
+        self.refresh(ram, f, PART * part);
+        self.parts[part] = true;
+    }
+
+    /// Forgets what was stored to: a part of the page, which has frame `f`, or another page that is known, and with it
+    /// all that are known but this.
+    #[inline(always)]
+    pub fn heed(&mut self, f: FrameNo, next: &Next, live: &mut Live)
+        requires { IsLive live.old.frames f.0 }
+        ensures live { IsLive live.new.frames f.0 }
+        ensures checked { (ram : List (List ℕ)) (ram' : List (List ℕ)) →
+            KeepsLive next.now live.old.frames ram ram' → AreChecked self.old.words ram f.0 self.old.parts →
+            AreChecked self.new.words ram' f.0 self.new.parts }
+        ensures others { (ram : List (List ℕ)) (ram' : List (List ℕ)) →
+            KeepsLive next.now live.old.frames ram ram' → StayLive f.0 live.old.frames live.new.frames ram ram' }
+    {
+        if let Some((g, part)) = next.stored() {
+            if g.0 == f.0 {
+                self.parts[part.number()] = false;
+            } else {
+                live.keep_only(f.0);
+            }
+        }
+    }
+
+    /// Forgets all parts, so it is a page of any frame.
+    #[inline(always)]
+    pub fn forget(&mut self)
+        ensures { (ram : List (List ℕ)) (f : ℕ) → AreChecked self.new.words ram f self.new.parts }
+    {
+        self.parts = [false; WORDS / PART];
+    }
+
+    /// The operation of word `k`, as it was decoded.
+    #[inline(always)]
+    #[tactic(auto, using(crate::proofs::Pages::one_read))]
+    pub fn op(&self, k: usize) -> &Op
+        requires { k < 1024 }
+        ensures { IsOp result.now (slice_index self.now.words k) }
+    {
+        &self.ops[k]
+    }
+}
