@@ -103,6 +103,25 @@ place:  addi a0, zero, 1
         ret
 ";
 
+// A word over an instruction of the page that called: the page of the function that writes runs meanwhile.
+const CALLER: &str = "
+        la s0, place
+        la s1, word
+        lw s1, 0(s1)
+        la s3, next
+        addi s2, zero, 2
+next:   addi a0, a0, 1
+        jalr ra, 0(s0)
+        addi s2, s2, -1
+        bne s2, zero, next
+        li a7, 2
+        ecall
+word:   addi a0, a0, 2
+        .zero 4096
+place:  sw s1, 0(s3)
+        ret
+";
+
 // A pipe is read into an instruction that ran: the word that the program wrote into it.
 const READ: &str = "
         jal ra, place
@@ -157,6 +176,38 @@ place:  addi a0, zero, 1
 word:   addi a0, zero, 6
 ";
 
+// Two children, one after the other, write each its word over an instruction, run it, and end with what it gives. Each
+// copies the page into its own frame, and the second gets the frame that the first gave back.
+const HEIRS: &str = "
+        la s0, place
+        la s1, word
+        lui s2, 2
+        addi s3, zero, 2
+again:  li a7, 1
+        ecall
+        beq a0, zero, child
+        mv a0, s2           # wait
+        li a7, 3
+        ecall
+        lw a0, 0(s2)
+        slli s4, s4, 4
+        add s4, s4, a0
+        addi s1, s1, 4
+        addi s3, s3, -1
+        bne s3, zero, again
+        mv a0, s4
+        j quit
+child:  lw s5, 0(s1)
+        sw s5, 0(s0)
+        jal ra, place
+quit:   li a7, 2
+        ecall
+place:  addi a0, zero, 1
+        ret
+word:   addi a0, zero, 6
+        addi a0, zero, 7
+";
+
 // An instruction is written into each of 65 pages, which adds the page's number, and they run in turn, twice.
 // The words of 64 pages are kept, in sets of two, so three of these pages are in one set.
 const PAGES: &str = "
@@ -188,7 +239,7 @@ place:  addi a0, a0, 0
         .zero 262144
 ";
 
-static ROWS: [Row; 7] = [
+static ROWS: [Row; 9] = [
     Row {
         text: NEXT,
         steps: 19,
@@ -210,6 +261,11 @@ static ROWS: [Row; 7] = [
         status: 0x17,
     },
     Row {
+        text: CALLER,
+        steps: 23,
+        status: 3,
+    },
+    Row {
         text: READ,
         steps: 32,
         status: 0x14,
@@ -218,6 +274,11 @@ static ROWS: [Row; 7] = [
         text: FORK,
         steps: 35,
         status: 0x61,
+    },
+    Row {
+        text: HEIRS,
+        steps: 61,
+        status: 0x67,
     },
     Row {
         text: PAGES,
