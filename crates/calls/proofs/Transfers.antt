@@ -316,6 +316,10 @@ module _ {k : Kernel} {i : ℕ} {e : End} {t : Target} {w : Pending} (g : Transf
   named-number place o told n some =
       same_Some n file.number (sym some ∙ told ∙ ap (slot (descriptors_at k i)) place ∙ file.named)
 
+  pub named-some : {d : ℕ} → d ≡ low (pending_arg w 0) → {o : Option ℕ} → o ≡ slot (descriptors_at k i) d
+      → is_some o ≡ true
+  named-some place told = ap is_some (told ∙ ap (slot (descriptors_at k i)) place ∙ file.named)
+
   pub going-is : going here w ≡ goes_on (state_of k) i (me here) w (call_on e)
   going-is = ap (goes_on (state_of k) i (me here) w) g.number
 
@@ -376,9 +380,8 @@ module _ {k : Kernel} {i : ℕ} {w : Pending} (e : End) (runs : Runs k i) (can :
   open-on : (s : Option Target) → r ≡ s → target_named k i (low (pending_arg w 0)) ≡ s
   open-on s is = ap (target_named k i) (sym place) ∙ sym told ∙ is
 
-  -- it is open on something
-  pub target-some : r ≡ None → ⊥
-  target-some none =
+  target-not_none : r ≡ None → ⊥
+  target-not_none none =
       let x = here-of runs in
       let n = some-named (slot (descriptors_at k i) (low (pending_arg w 0)))
       (pending-named e (descriptors_at k i) (memory_at k i) w pending) in
@@ -389,6 +392,13 @@ module _ {k : Kernel} {i : ℕ} {w : Pending} (e : End) (runs : Runs k i) (can :
       ap (option_and_then (file_at k.files)) n.1 in
       some-file (file_at k.files n.0) (ap is_some (sym (file-opens k.files n.0) ∙ there.1.0))
       (sym (ap (option_map (λ (f : OpenFile). f.target)) named) ∙ open-on None none)
+
+  -- it is open on something
+  pub target-some : is_some r ≡ true
+  target-some = go r refl where
+    go : (o : Option Target) → r ≡ o → is_some o ≡ true
+    go None is = absurd (target-not_none is)
+    go (Some t) is = refl
 
   pub goes-transfers : {t : Target} → r ≡ Some t → Transfers k i e t w
   goes-transfers {t = t} is =

@@ -158,10 +158,7 @@ pub(crate) fn read_on<D: BlockDev, T: Translate>(
     requires number { pending.number ≡ Call.Read }
     ensures { GoesOn kernel.old kernel.new at pending result }
 {
-    let Some(target) = open_target(kernel, at, low(pending.args[0])) else {
-        unreachable!()
-    };
-    match target {
+    match open_target(kernel, at, low(pending.args[0])).unwrap() {
         Target::Console { .. } => read_console(kernel, at, pending),
         Target::Pipe { pipe, .. } => read_pipe(kernel, at, pipe, pending),
         Target::File { .. } | Target::Device { .. } => unreachable!(),
@@ -197,9 +194,7 @@ fn read_file<D: BlockDev, T: Translate>(
     requires { Uses kernel.old at End.Read (target.File number offset) pending }
     ensures { GoesOnDisk kernel.old kernel.new at pending result }
 {
-    let Some(id) = kernel.open_id(at, low(pending.args[0])) else {
-        unreachable!()
-    };
+    let id = kernel.open_id(at, low(pending.args[0])).unwrap();
     kernel.files_are_whole();
     let count = u64::from(low(pending.args[2]));
     match kernel.read_node(at, number as usize, offset, pending.args[1], count) {
@@ -406,10 +401,7 @@ pub(crate) fn write_on<D: BlockDev, T: Translate>(
     requires number { pending.number ≡ Call.Write }
     ensures { GoesOn kernel.old kernel.new at pending result }
 {
-    let Some(target) = open_target(kernel, at, low(pending.args[0])) else {
-        unreachable!()
-    };
-    match target {
+    match open_target(kernel, at, low(pending.args[0])).unwrap() {
         Target::Pipe { pipe, .. } => write_pipe(kernel, at, pipe, pending),
         Target::File { .. } | Target::Console { .. } | Target::Device { .. } => unreachable!(),
     }

@@ -270,9 +270,9 @@ pub fork-by : (k : Kernel) (i : ℕ) (seat : Seat) {p q : Process}
 fork-by k i seat {p} {q} said at = let f = ap (option_map (on_hart k.spaces)) at in let same : q ≡ on_hart k.spaces p =
     cc in ap (forked_as k i seat) same
 
-pub fork-there : {k : Kernel} {i : ℕ} (x : Runner k i) → None ≡ option_map (on_hart k.spaces) (slot k.table.places i)
-    → ⊥
-fork-there {k} x none = let there = ap (option_map (on_hart k.spaces)) x.run.process in cc
+pub fork-there : {k : Kernel} {i : ℕ} (x : Runner k i) {o : Option Process}
+    → o ≡ option_map (on_hart k.spaces) (slot k.table.places i) → is_some o ≡ true
+fork-there {k} x told = ap is_some (told ∙ ap (option_map (on_hart k.spaces)) x.run.process)
 
 -- a hold of its directory
 pub fork-home : {k : Kernel} {i : ℕ} (x : Runner k i) {q : Process} → k.tree.failed ≡ false

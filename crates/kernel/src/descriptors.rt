@@ -63,15 +63,9 @@ pub fn open_as(table: &mut Table, files: &mut Files, at: usize, file: OpenFile) 
     ensures opens { OpensAs table.old table.new files.old files.new at file result }
     ensures within { result < 16 }
 {
-    let Some(process) = table.process(at) else {
-        unreachable!()
-    };
-    let Some(free) = free_descriptor(&process.descriptors) else {
-        unreachable!()
-    };
-    let Ok(id) = files.open(file) else {
-        unreachable!()
-    };
+    let process = table.process(at).unwrap();
+    let free = free_descriptor(&process.descriptors).unwrap();
+    let id = files.open(file).unwrap();
     table.set_descriptor(at, free, Some(id as u8));
     free
 }

@@ -311,9 +311,7 @@ impl<D: BlockDev, T: Translate> Kernel<D, T> {
         ensures { Serves self.old.tree self.new.tree result (λ done. HasEnded self.old self.new at status) }
     {
         self.is_sound();
-        let Some(process) = self.whole(at) else {
-            unreachable!()
-        };
+        let process = self.whole(at).unwrap();
         let halted = halted_after(process.pid, status, self.halted);
         let nodes = end(
             &mut self.table,

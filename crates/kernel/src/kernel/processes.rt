@@ -28,9 +28,7 @@ impl<D: BlockDev, T: Translate> Kernel<D, T> {
         ensures { Forks self.old self.new at seat result }
     {
         self.is_sound();
-        let Some(process) = self.on_hart(at) else {
-            unreachable!()
-        };
+        let process = self.on_hart(at).unwrap();
         if !self.spaces.copy(at, seat.place) {
             return false;
         }

@@ -5,9 +5,9 @@ use Rattle.kernel.proofs.Turning.{hold-few, runner-of}
 use Rattle.kernel.proofs.Runs.{active-space}
 use Rattle.kernel.proofs.kernel.Kernel.fork.Goals as goal
 
-pub unreachable-requires : goal.unreachable-requires
-unreachable-requires g c =
-    fork-there (runner-of c.is_sound.ensures.sound c.requires.may.running) c.in_default.ensures.process
+pub unwrap-process-requires : goal.unwrap-process-requires
+unwrap-process-requires g c =
+    fork-there (runner-of c.is_sound.ensures.sound c.requires.may.running) c.on_hart.ensures.process
 
 pub copy-requires-clause-from : goal.copy-requires-clause-from
 copy-requires-clause-from g c = active-space c.self.view_is c.self.invariant.sound c.requires.may.running
@@ -26,26 +26,27 @@ hold-requires g c =
     record {
       up = may.up;
       node = fork-home (runner-of c.self.invariant.sound may.running) may.up
-          (rw (← c.self.view_is) at c.in-Some.ensures.process);
+          (rw (c.unwrap-process.ensures, ← c.self.view_is) at c.on_hart.ensures.process);
       few =
-          hold-few c.self.invariant.sound may.up c.in-Some.process.directory;
+          hold-few c.self.invariant.sound may.up c.unwrap-process.result.directory;
     }
 
 pub invariant_of-self-2 : goal.invariant_of-self-2
 invariant_of-self-2 g c =
     let may = rw (← c.self.view_is) at c.requires.may in
-    let table : c.alloc-seat.new.self ≡ seated c.self.inside.table (child_of c.in-Some.process) c.args.seat =
+    let table : c.alloc-seat.new.self ≡ seated c.self.inside.table (child_of c.unwrap-process.result) c.args.seat =
     rw (c.alloc-seat.ensures.seat, may.next) at c.alloc-seat.ensures.ok in
     rw (c.wake.ensures, table, c.if-not-copy.ensures.done.1, c.share_all.ensures, c.hold.ensures)
     (fork-keeps c.self.invariant may (rw (← c.self.view_is) at c.is_sound.ensures.zero)
-    (rw (← c.self.view_is) at c.is_sound.ensures.aligned) (rw (← c.self.view_is) at c.in-Some.ensures.process)
+    (rw (← c.self.view_is) at c.is_sound.ensures.aligned)
+    (rw (c.unwrap-process.ensures, ← c.self.view_is) at c.on_hart.ensures.process)
     c.if-not-copy.ensures.done.0)
 
 pub returns : goal.returns
 returns g c =
     let may = rw (← c.self.view_is) at c.requires.may in
-    let said = rw (← c.self.view_is) at c.in-Some.ensures.process in
-    let table : c.alloc-seat.new.self ≡ seated c.self.inside.table (child_of c.in-Some.process) c.args.seat =
+    let said = rw (c.unwrap-process.ensures, ← c.self.view_is) at c.on_hart.ensures.process in
+    let table : c.alloc-seat.new.self ≡ seated c.self.inside.table (child_of c.unwrap-process.result) c.args.seat =
     rw (c.alloc-seat.ensures.seat, may.next) at c.alloc-seat.ensures.ok in
     let d = c.if-not-copy.ensures.done in
     rw (c.wake.ensures, table, d.1, c.share_all.ensures, c.hold.ensures, ← c.self.view_is) (
