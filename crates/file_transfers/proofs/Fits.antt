@@ -271,8 +271,8 @@ module _ {old now : FileTree} {n at : ℕ} {new : List ℕ} {done : ℕ} (has : 
           ∙ ap count_of (written-some piece-writes)
 
       -- a write that is refused would have begun elsewhere
-      pub never-refused : told ≡ None → ⊥
-      never-refused e = none-some piece-fits (sym e ∙ told-is)
+      pub never-refused : is_some told ≡ true
+      never-refused = ap is_some told-is
 
       module _ (k : ℕ) (went : told ≡ Some k) where
         went-is : piece-fits ≡ k

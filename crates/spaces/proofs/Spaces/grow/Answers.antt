@@ -21,7 +21,8 @@ more g c =
     let front = grown-front i.ram c.grow.new.ram i.frames c.grow.new.frames x c.grow.new.self c.grow.result
     c.grow.ensures.entries c.grow.ensures.unchanged in
     changed c.self.invariant c.args.at x c.grow.new.self i.translator
-    (there c.args.at c.deref_mut.ensures.value (sym (rw c.unwrap-space.ensures at c.as_mut.ensures.value))) (refilled c.args.at c.deref_mut.ensures.value refl)
+    (there c.args.at c.deref_mut.ensures.value (sym (rw c.unwrap-space.ensures at c.as_mut.ensures.value)))
+    (refilled c.args.at c.deref_mut.ensures.value refl)
     c.grow.ensures.space c.grow.ensures.trades c.grow.ensures.root (λ t h. h)
     (λ a was. coherent-grown (g.T.Translate.held i.translator) x.root.0 (entries_of i.ram x)
     (entries_of c.grow.new.ram c.grow.new.self) front was)
@@ -34,7 +35,11 @@ returns-clause-done g c =
     let x = c.unwrap-space.result.now in
     let memory = pages_of c.self.inside.ram x
     ++ replicate (pages_in (x.size + c.args.bytes) - pages_in x.size) (zero_page (marks_from c.args.perm)) in
-    rw (← c.self.view_is, held-is c.self.inside _ (there c.args.at c.deref_mut.ensures.value (sym (rw c.unwrap-space.ensures at c.as_mut.ensures.value))))
+    rw (
+      ← c.self.view_is,
+      held-is c.self.inside _
+          (there c.args.at c.deref_mut.ensures.value (sym (rw c.unwrap-space.ensures at c.as_mut.ensures.value))),
+    )
     (ok-true c.grow.result c.is_ok.result _ _ _ c.is_ok.ensures.value c.grow.ensures.pages c.grow.ensures.size
     (λ pages grew.
     let all = placed-as c.args.at (more g (goal.at.returns-clause-done g c).After-grow)

@@ -4,17 +4,20 @@ use Rattle.vm.proofs.Added.{IsBefore, taken-before, ok-unless_err, taken-fits, t
 use Rattle.vm.proofs.Space.add_page.Goals as goal
 use Rattle.vm.proofs.Space.add_page.Goals.{After-zero}
 
-taken : (c : After-zero) → IsTaken c.args.ram.now c.zero.new.self c.args.frames.now c.take.new.self c.unwrap-frame.result.0
+taken : (c : After-zero) → IsTaken c.args.ram.now c.zero.new.self c.args.frames.now c.take.new.self
+    c.unwrap-frame.result.0
 taken c = IsTaken-set _ _ _ _ _ (replicate 4096 0) (rw c.unwrap-frame.ensures at c.take.ensures.some)
     c.take.ensures.valid c.zero.ensures c.take.ensures.extra
 
 before : (c : After-zero)
-    → IsBefore c.zero.new.self c.args.self.now.root.0 c.args.self.now.trap.0 c.args.n c.unwrap-frame.result.0 c.args.marks.0
+    → IsBefore c.zero.new.self c.args.self.now.root.0 c.args.self.now.trap.0 c.args.n c.unwrap-frame.result.0
+    c.args.marks.0
     c.take.new.self
 before c = taken-before c.requires.held (taken c) _ c.requires.small
 
 pub zero-requires : goal.zero-requires
-zero-requires c = (free-first c.requires.held.free c.unwrap-frame.result.0 _ (rw c.unwrap-frame.ensures at c.take.ensures.some)).0
+zero-requires c = (free-first c.requires.held.free c.unwrap-frame.result.0 _
+    (rw c.unwrap-frame.ensures at c.take.ensures.some)).0
 
 pub map-requires-clause-paged : goal.map-requires-clause-paged
 map-requires-clause-paged c = OwnsFrames-paged (before (goal.at.map-requires-clause-paged c).After-zero).space
@@ -39,7 +42,8 @@ pub returns : goal.returns
 returns c =
     let z = (goal.at.returns c).After-zero in
     let mapped = rw c.unwrap.ensures at c.map.ensures in
-    let inside = (free-first c.requires.held.free c.unwrap-frame.result.0 _ (rw c.unwrap-frame.ensures at c.take.ensures.some)).0 in
+    let inside = (free-first c.requires.held.free c.unwrap-frame.result.0 _
+    (rw c.unwrap-frame.ensures at c.take.ensures.some)).0 in
     let g = taken-grown c.requires.held (taken z) c.map.new.ram c.requires.small
     (ap (λ m. frame_of m c.unwrap-frame.result.0) c.zero.ensures
     ∙ get_or-set_same c.args.ram.now c.unwrap-frame.result.0 (replicate 4096 0) _ inside)

@@ -1,6 +1,7 @@
 use Rattle.vm.proofs.Common.{arith, ap, refl, ◌∙◌, replicate, get_or-set_same, frame_of, free-first, IsTidy-empty}
 use Rattle.vm.proofs.DenseLemmas.{IsTaken-set}
-use Rattle.vm.proofs.Added.{IsMade, IsStart, ok-unless_err, start-count, start-empty, start-made, start-missing, start-paged}
+use Rattle.vm.proofs.Added.{IsMade, IsStart, ok-unless_err, start-count, start-empty, start-made, start-missing}
+use Rattle.vm.proofs.Added.{start-paged}
 use Rattle.vm.proofs.Space.new.Goals as goal
 use Rattle.vm.proofs.Space.new.Goals.{After-unwrap, After-zero}
 
@@ -20,7 +21,8 @@ start c =
       taken = IsTaken-set _ _ _ _ _ (replicate 4096 0) t.some t.valid c.zero.ensures t.extra;
     }
 
-made : (c : After-unwrap) → IsMade c.args.ram.now c.zero.new.self c.map.new.ram c.unwrap-table.result.root.0 c.unwrap-trap.result.0
+made : (c : After-unwrap) → IsMade c.args.ram.now c.zero.new.self c.map.new.ram c.unwrap-table.result.root.0
+    c.unwrap-trap.result.0
     c.args.frames.now c.map.new.frames
 made c =
     let is = start (goal.at.After-unwrap c).After-zero in
