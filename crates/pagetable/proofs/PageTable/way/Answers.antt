@@ -12,7 +12,8 @@ unwrap-low-requires c = some-unless_none _ (λ none. c.requires.mapped
     (lookup_of-low _ _ c.args.page (rw none at c.low_table.ensures)))
 
 pub leaf-requires-clause-sound : goal.leaf-requires-clause-sound
-leaf-requires-clause-sound c = tree-leaf_sound c.requires.tree c.args.page (rw c.unwrap-low.ensures at c.low_table.ensures)
+leaf-requires-clause-sound c = tree-leaf_sound c.requires.tree c.args.page
+    (rw c.unwrap-low.ensures at c.low_table.ensures)
 
 pub unwrap-requires : goal.unwrap-requires
 unwrap-requires c = some-unless_none _ (λ none. c.requires.mapped

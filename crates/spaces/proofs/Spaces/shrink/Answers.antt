@@ -9,19 +9,22 @@ use Rattle.spaces.proofs.Common.{pages_in, pages_of, sym}
 
 pub shrink-requires-clause-space : goal.shrink-requires-clause-space
 shrink-requires-clause-space g c =
-    c.self.invariant.machine.each c.args.at c.unwrap-space.result.now (there c.args.at c.deref_mut.ensures.value (sym (rw c.unwrap-space.ensures at c.as_mut.ensures.value)))
+    c.self.invariant.machine.each c.args.at c.unwrap-space.result.now
+    (there c.args.at c.deref_mut.ensures.value (sym (rw c.unwrap-space.ensures at c.as_mut.ensures.value)))
 
 less : (g : given.Over) (c : After-fence_active g)
     → Placed g.T.Translate.held c.self.inside
     (set_in c.self.inside c.shrink.new.ram c.shrink.new.frames c.fence_active.new.translator c.deref_mut.result.now
     c.args.at (Some c.shrink.new.self)) c.args.at
-    (Some (shrunk (view_with (pages_of c.self.inside.ram c.unwrap-space.result.now) c.unwrap-space.result.now.size) c.args.bytes))
+    (Some (shrunk (view_with (pages_of c.self.inside.ram c.unwrap-space.result.now) c.unwrap-space.result.now.size)
+    c.args.bytes))
 less g c =
     let x = c.unwrap-space.result.now in
     let z = c.shrink.new.self in
     let size : z.size ≡ x.size - c.args.bytes = let h = c.shrink.ensures.size in omega (arith, h) in
     placed-as c.args.at (changed c.self.invariant c.args.at x z c.fence_active.new.translator
-    (there c.args.at c.deref_mut.ensures.value (sym (rw c.unwrap-space.ensures at c.as_mut.ensures.value))) (refilled c.args.at c.deref_mut.ensures.value refl)
+    (there c.args.at c.deref_mut.ensures.value (sym (rw c.unwrap-space.ensures at c.as_mut.ensures.value)))
+    (refilled c.args.at c.deref_mut.ensures.value refl)
     c.shrink.ensures.space c.shrink.ensures.trades c.shrink.ensures.root c.fence_active.ensures.fewer
     (λ a was. coherent-nothing (g.T.Translate.held c.fence_active.new.translator) x.root.0
     (entries_of c.shrink.new.ram z) (c.fence_active.ensures.fenced a)))
@@ -32,5 +35,9 @@ pub invariant_of-self : goal.invariant_of-self
 invariant_of-self g c = (less g (goal.at.invariant_of-self g c).After-fence_active).sound
 
 pub returns : goal.returns
-returns g c = rw (← c.self.view_is, held-is c.self.inside _ (there c.args.at c.deref_mut.ensures.value (sym (rw c.unwrap-space.ensures at c.as_mut.ensures.value))))
+returns g c = rw (
+  ← c.self.view_is,
+  held-is c.self.inside _
+      (there c.args.at c.deref_mut.ensures.value (sym (rw c.unwrap-space.ensures at c.as_mut.ensures.value))),
+)
     (less g (goal.at.returns g c).After-fence_active).view
