@@ -8,7 +8,6 @@ use Rattle.file_transfers.proofs.Common.{FileTree, Serves, Load, Files, Node, lo
 use Rattle.file_transfers.proofs.Common.{reach, read_bytes, IsSized, piece_at, length-piece, reach-front, reach-next}
 use Rattle.file_transfers.proofs.Common.{reach-page}
 use Rattle.std.proofs.lemmas.Bool.Decides.{nat_tests}
-use Rattle.std.proofs.lemmas.Option.{none-some}
 use Rattle.file_transfers.proofs.Memory.{length-overwrite, overwrite-none, overwrite-twice, readable-count}
 use Rattle.tree.specs.Written.{IsFile, Written, count_of, files_after, fitting, with_bytes, write_to, written}
 use Rattle.tree.proofs.Storing.{taken-grows, blocks_of-set, slot-within}
@@ -271,8 +270,8 @@ module _ {old now : FileTree} {n at : ℕ} {new : List ℕ} {done : ℕ} (has : 
           ∙ ap count_of (written-some piece-writes)
 
       -- a write that is refused would have begun elsewhere
-      pub never-refused : told ≡ None → ⊥
-      never-refused e = none-some piece-fits (sym e ∙ told-is)
+      pub never-refused : is_some told ≡ true
+      never-refused = ap is_some told-is
 
       module _ (k : ℕ) (went : told ≡ Some k) where
         went-is : piece-fits ≡ k

@@ -100,9 +100,7 @@ fn write_pages<D: BlockDev, T: Translate>(
     while done < count {
         let piece = piece(spaces, at, address + done, count - done);
         let from = offset as usize + done as usize;
-        let Some(went) = tree.write(number, from, piece)? else {
-            unreachable!()
-        };
+        let went = tree.write(number, from, piece)?.unwrap();
         done += went as u64;
         if went < piece.len() {
             return Ok(Some(done));

@@ -1,6 +1,6 @@
 //! The machine: events in, the console's bytes and the state of the processes out.
 ghost use Rattle.std.specs.Prelude.{◌≡◌, ◌≤◌, ◌+◌, ℕ, None, Some, false, OnOk, OnErr, IfSome, IfOk, IsErrOf, is_some};
-ghost use Rattle.std.specs.Prelude.{option_map, slice_index};
+ghost use Rattle.std.specs.Prelude.{option_map, slice_index, true};
 ghost use Rattle.unixmodel.specs.Next.{next};
 ghost use Rattle.kernel.specs.Kernel.{state_of};
 ghost use Rattle.machine.specs.Gives.{fails};
@@ -78,6 +78,14 @@ impl<D: BlockDev, T: Translate> Machine<D, T> {
         ensures stopped { IsUp self.now → result ≡ false }
     {
         self.failed || self.kernel.halted().is_some()
+    }
+
+    /// Whether it takes events: process 1 runs still, and neither the device nor the console has failed.
+    pub fn is_up(&self) -> bool
+        ensures up { result ≡ true → IsUp self.now }
+        ensures stopped { result ≡ false → ¬ IsUp self.now }
+    {
+        !self.is_stopped()
     }
 
     /// Handles one event. An error says why the machine stops; after `Device` and `Console` it is of no more use, and

@@ -1,5 +1,6 @@
 -- The program headers of a file, as their segments are loaded.
 use Rattle.programs.proofs.Common.{◌%◌, ◌&&◌, ◌*◌, ◌+◌, ◌++◌, ◌-◌, ◌<◌, ◌^◌, ap, arith, Bool, drop, Err, false, length}
+use Rattle.std.specs.Result.{is_ok}
 use Rattle.programs.proofs.Common.{List, None, Ok, Option, refl, Result, Some, subst, sym, take, true, ℕ, ◌∙◌, ◌≡◌, ◌≤◌}
 use Rattle.programs.proofs.Common.{nat_tests, none-some, same_Some, ◌==◌, if◌then◌else◌, nat_le, nat_lt, not}
 use Rattle.programs.proofs.Common.{option_map, headers_by, loaded_by, loads-header, loads-segment, segment_at-part}
@@ -64,8 +65,11 @@ module _ (file : List ℕ) (place : ℕ) (h : SpaceView) (end : ℕ) {told : Res
       → loaded_by file here (segment_at file place) r ≡ Some next
   next-by is = ap (loaded_by file here (segment_at file place)) (sym is ∙ read) ∙ sym (loads-segment _ _ _) ∙ some
 
-  pub never-refused : {fault : ElfFault} → told ≡ Err fault → ⊥
-  never-refused {fault} is = none-some next (next-by is)
+  pub never-refused : is_ok told ≡ true
+  never-refused = go told refl where
+    go : (r : Result (Option LoadSegment) ElfFault) → told ≡ r → is_ok r ≡ true
+    go (Ok o) is = refl
+    go (Err fault) is = absurd (none-some next (next-by is))
 
   -- it is skipped
   pub skipped-next : {o : Option LoadSegment} → told ≡ Ok o → o ≡ None → here ≡ next

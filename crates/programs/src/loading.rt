@@ -57,9 +57,8 @@ fn add_pages<T: Translate>(spaces: &mut Spaces<T>, at: usize, count: u64, perm: 
     requires room { HasRoom spaces.old at (length (view_at spaces.old at).memory + count) }
     ensures { spaces.new ≡ with_more spaces.old at (replicate count (zero_page (marks_from perm))) }
 {
-    if !spaces.grow(at, count * FRAME_SIZE as u64, perm) {
-        unreachable!()
-    }
+    let has_grown = spaces.grow(at, count * FRAME_SIZE as u64, perm);
+    prove!(has_grown);
 }
 
 // Reads as many bytes of a file as fit in a buffer, all of which it has, and writes them into the pages of a slot.
@@ -182,13 +181,12 @@ fn load_next<D: BlockDev, T: Translate>(
         (LoadsTo spaces.old spaces.new at (next_in (file_of tree.old number) place (view_at spaces.old at) end)) }
     ensures failed { OnErr result ((held : SpaceView) × (spaces.new ≡ with_view spaces.old at held)) }
 {
-    match read_segment(tree, number, place, end, len)? {
-        Ok(Some(segment)) => {
+    match read_segment(tree, number, place, end, len)?.unwrap() {
+        Some(segment) => {
             load_segment(tree, spaces, at, number, segment)?;
             Ok(segment.address + segment.size)
         }
-        Ok(None) => Ok(end),
-        Err(_) => unreachable!(),
+        None => Ok(end),
     }
 }
 

@@ -50,17 +50,18 @@ overflow_add-address g c =
 pub write-requires-clause-file : goal.write-requires-clause-file
 write-requires-clause-file g c = file-now c.loop-done.invariant
 
-pub unreachable-requires : goal.unreachable-requires
-unreachable-requires g c =
+pub unwrap-went-requires : goal.unwrap-went-requires
+unwrap-went-requires g c =
     let piece = is-piece _ c.args.address c.args.count c.requires.readable c.loop-done.done c.loop-done-test.true
     c.pages_are_whole.ensures.sized c.piece-piece.result.now c.piece-piece.ensures in
-    never-refused c.loop-done.invariant piece c.in_ok-went.ensures.told c.in_default.is
+    never-refused c.loop-done.invariant piece c.in_ok-write.ensures.told
 
 pub overflow_add-done : goal.overflow_add-done
 overflow_add-done g c =
     let piece = is-piece _ c.args.address c.args.count c.requires.readable c.loop-done.done c.loop-done-test.true
     c.pages_are_whole.ensures.sized c.piece-piece.result.now c.piece-piece.ensures in
-    let low = went-low c.loop-done.invariant piece c.in_ok-went.ensures.told c.in-Some.went c.in-Some.is in
+    let low = went-low c.loop-done.invariant piece c.in_ok-write.ensures.told c.unwrap-went.result c.unwrap-went.ensures
+    in
     let whole = given-length _ c.args.address c.args.count c.requires.readable in
     let within = piece.within in
     omega (arith, low, within, whole, c.ranges.count.fits)
@@ -70,10 +71,10 @@ returns-then-went-piece g c =
     let given = bytes_given c.args.spaces.now c.args.at c.args.address c.args.count in
     let piece = is-piece _ c.args.address c.args.count c.requires.readable c.loop-done.done c.loop-done-test.true
     c.pages_are_whole.ensures.sized c.piece-piece.result.now c.piece-piece.ensures in
-    let more = write-more {new = given} c.loop-done.invariant piece c.in_ok-went.ensures.told c.in-Some.went
-    c.in-Some.is c.write.ensures.cause.later in
-    let part = write-part {new = given} c.loop-done.invariant piece c.in_ok-went.ensures.told c.in-Some.went
-    c.in-Some.is c.if-went-piece.true in
+    let more = write-more {new = given} c.loop-done.invariant piece c.in_ok-write.ensures.told c.unwrap-went.result
+    c.unwrap-went.ensures c.write.ensures.cause.later in
+    let part = write-part {new = given} c.loop-done.invariant piece c.in_ok-write.ensures.told c.unwrap-went.result
+    c.unwrap-went.ensures c.if-went-piece.true in
     write-serves {new = given} more {Told = Tells c.args.tree.now c.write.new.self c.args.number c.args.offset given}
     c.requires.up part
 
@@ -88,7 +89,7 @@ pub loop-done-preserved : goal.loop-done-preserved
 loop-done-preserved g c =
     let piece = is-piece _ c.args.address c.args.count c.requires.readable c.loop-done.done c.loop-done-test.true
     c.pages_are_whole.ensures.sized c.piece-piece.result.now c.piece-piece.ensures in
-    write-more c.loop-done.invariant piece c.in_ok-went.ensures.told c.in-Some.went c.in-Some.is
+    write-more c.loop-done.invariant piece c.in_ok-write.ensures.told c.unwrap-went.result c.unwrap-went.ensures
     c.write.ensures.cause.later
 
 pub returns : goal.returns

@@ -5,19 +5,20 @@ use Rattle.programs.proofs.Headings.{lost}
 use Rattle.programs.proofs.Common.{ap, arith, length, view_at}
 use Rattle.programs.proofs.loading.load_next.Goals as goal
 
-pub returns-in_err-segment : goal.returns-in_err-segment
-returns-in_err-segment g c = record {
+pub returns-in_err-read_segment : goal.returns-in_err-read_segment
+returns-in_err-read_segment g c = record {
   serves = lost c.from_residual.result _ c.from_residual.ensures.1 _ (kept-none _ c.requires.up)
-      c.in_err-segment.ensures;
+      c.in_err-read_segment.ensures;
   loaded = err-told c.from_residual.result _ c.from_residual.ensures.1 _;
   failed = held-still _ _ c.from_residual.result c.requires.space;
 }
 
 pub load_segment-requires : goal.load_segment-requires
 load_segment-requires g c =
-    let kept = kept-one c.in_ok-segment.ensures.told.same c.in_ok-segment.ensures in
-    let is = is-next _ c.args.place _ c.args.end c.in_ok-segment.ensures.told.value c.requires.next.0 c.requires.next.1
-    c.in-Ok-Some.is c.in-Ok-Some.field-0-is c.requires.whole in
+    let kept = kept-one c.in_ok-read_segment.ensures.told.same c.in_ok-read_segment.ensures in
+    let is = is-next _ c.args.place _ c.args.end c.in_ok-read_segment.ensures.told.value c.requires.next.0
+    c.requires.next.1
+    c.unwrap.ensures c.in-Some.is c.requires.whole in
     let next = fits-next c.args.spaces.now c.args.at c.args.number c.args.place c.args.end kept c.requires.next.0 is
     c.requires.next.2 c.requires.next.3 in
     record {
@@ -31,34 +32,36 @@ load_segment-requires g c =
       room = next.2;
     }
 
-pub unreachable-requires : goal.unreachable-requires
-unreachable-requires g c =
-    never-refused _ c.args.place (view_at c.args.spaces.now c.args.at) c.args.end c.in_ok-segment.ensures.told.value
-    c.requires.next.0 c.requires.next.1 c.in-Err.is
+pub unwrap-requires : goal.unwrap-requires
+unwrap-requires g c =
+    never-refused _ c.args.place (view_at c.args.spaces.now c.args.at) c.args.end
+    c.in_ok-read_segment.ensures.told.value
+    c.requires.next.0 c.requires.next.1
 
-pub returns-in_ok-load_segment-in-Ok-Some : goal.returns-in_ok-load_segment-in-Ok-Some
-returns-in_ok-load_segment-in-Ok-Some g c =
-    let kept = kept-one c.in_ok-segment.ensures.told.same c.in_ok-segment.ensures in
+pub returns-in_ok-load_segment-in-Some : goal.returns-in_ok-load_segment-in-Some
+returns-in_ok-load_segment-in-Some g c =
+    let kept = kept-one c.in_ok-read_segment.ensures.told.same c.in_ok-read_segment.ensures in
     record {
-      serves = kept-leaves (kept-more kept c.in_ok-load_segment-in-Ok-Some.ensures.serves.told
-          c.in_ok-load_segment-in-Ok-Some.ensures.serves);
+      serves = kept-leaves (kept-more kept c.in_ok-load_segment-in-Some.ensures.serves.told
+          c.in_ok-load_segment-in-Some.ensures.serves);
       loaded = λ next some.
-          let is = is-next _ c.args.place _ c.args.end c.in_ok-segment.ensures.told.value next some c.in-Ok-Some.is
-          c.in-Ok-Some.field-0-is c.requires.whole in
+          let is = is-next _ c.args.place _ c.args.end c.in_ok-read_segment.ensures.told.value next some
+          c.unwrap.ensures
+          c.in-Some.is c.requires.whole in
           segment-next c.args.spaces.now c.args.at c.args.number c.args.place c.args.end kept next is
-          c.in_ok-load_segment-in-Ok-Some.ensures.loaded;
+          c.in_ok-load_segment-in-Some.ensures.loaded;
       failed = tt;
     }
 
-pub returns-in-Ok-None : goal.returns-in-Ok-None
-returns-in-Ok-None g c =
-    let kept = kept-one c.in_ok-segment.ensures.told.same c.in_ok-segment.ensures in
+pub returns-in-None : goal.returns-in-None
+returns-in-None g c =
+    let kept = kept-one c.in_ok-read_segment.ensures.told.same c.in_ok-read_segment.ensures in
     record {
       serves = kept-leaves kept;
       loaded = λ next some.
           nothing-more c.args.spaces.now c.args.at c.args.number c.args.place c.args.end kept next c.requires.space
           c.requires.paged
           (skipped-next _ c.args.place (view_at c.args.spaces.now c.args.at) c.args.end
-          c.in_ok-segment.ensures.told.value next some c.in-Ok-None.is c.in-Ok-None.field-0-is);
+          c.in_ok-read_segment.ensures.told.value next some c.unwrap.ensures c.in-None.is);
       failed = tt;
     }
