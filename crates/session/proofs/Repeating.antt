@@ -100,51 +100,7 @@ ends first now most n before after rising h busy within all =
       far = record { within = within; busy = busy; idle = λ less. absurd (omega (arith, less, all)) };
     }
 
--- ---- a machine that is given no event: whether it takes any
-
-same-view : (a b : View) → a.state ≡ b.state → a.failures ≡ b.failures → a.failed ≡ b.failed → a.identity ≡ b.identity
-    → a ≡ b
-same-view a b p q r s = λ i. record { state = p i; failures = q i; failed = r i; identity = s i }
-
--- without events the machine and the bytes stay, and the result says whether the machine takes events
-pub stands : (old new : View) (xs ys : List ℕ) (rising : Type 0) (r : Result (Unit {0}) Halt)
-    → RunGives old new [] (Some xs) (Some ys) rising r
-    → old.failures ≡ 0 → new.failures ≡ 0 → (new ≡ old) × (ys ≡ xs) × (IsUp old ↔ (is_ok r ≡ true))
-unfolding run
-stands old new xs ys rising (Ok u) h first now = (
-  same-view new old h.1.state (now ∙ sym first) (h.1.sound ∙ sym h.0.sound) h.1.same_device,
-  h.1.printed
-      ∙ append-nil xs,
-  (λ up. refl, λ ok. h.0),
-)
-stands old new xs ys rising (Err (InitEnded status)) h first now = absurd (let e = sym h.0.goes ∙ h.1.halts in cc)
-stands old new xs ys rising (Err Device) h first now = absurd (let more = h.1.more in omega (arith, more))
-stands old new xs ys rising (Err Console) h first now = absurd (let more = h.1.more in omega (arith, more))
-stands old new xs ys rising (Err Halted) h first now =
-    (h.same, h.printed ∙ append-nil xs, (λ up. absurd (h.stopped up), λ ok. absurd cc))
-
--- a count that rose after a look has risen since before it
-rises-sooner : (old new : View) (events : List Event) (before after : Option (List ℕ)) (step_rises rises : Type 0)
-    (r : Result (Unit {0}) Halt) → (step_rises → rises) → RunGives old new events before after step_rises r
-    → RunGives old new events before after rises r
-rises-sooner old new events before after step_rises rises (Ok u) rise k = k
-rises-sooner old new events before after step_rises rises (Err (InitEnded status)) rise k = k
-rises-sooner old new events before after step_rises rises (Err Device) rise k = k
-rises-sooner old new events before after step_rises rises (Err Console) rise k = (
-  k.0,
-  record {
-    rises = rise k.1.rises;
-    failed = k.1.failed;
-    printed = k.1.printed;
-    done = k.1.done;
-    more = k.1.more;
-    goes = k.1.goes;
-    files = k.1.files;
-    same_device = k.1.same_device;
-    later = k.1.later;
-  },
-)
-rises-sooner old new events before after step_rises rises (Err Halted) rise k = k
+-- ---- the run of a session
 
 -- where the disk never fails, no answer blames it
 tells-of : (old new : View) (events : List Event) (xs ys : List ℕ) (rising : Type 0) (r : Result (Unit {0}) Halt)
@@ -165,26 +121,18 @@ never old new events before after rising n (Err Device) up k is = absurd cc
 never old new events before after rising n (Err Console) up k is = absurd cc
 never old new events before after rising n (Err Halted) up k is = absurd (k.stopped up)
 
--- the run of a session whose machine takes events, which was looked at before
-pub runs-on : {old new : Session} {most : ℕ} {ran : Ran} (mid : View) (bytes : List ℕ) (failed : ℕ) → mid ≡ old.machine
-    → bytes ≡ console_of old → console_failures old ≤ failed → failed ≤ console_failures new → IsUp old.machine
-    → new.machine.failures ≡ 0
-    → Advances mid new.machine most (Some bytes) (Some (console_of new)) (Rises failed (console_failures new)) ran
-    → Runs old new most ran
-runs-on {old} {new} {most} {ran} mid bytes failed same kept later rose up zero a =
+-- the run of a session whose machine takes events
+pub runs-on : {old new : Session} {most : ℕ} {ran : Ran} → IsUp old.machine → new.machine.failures ≡ 0
+    → Advances old.machine new.machine most (Some (console_of old)) (Some (console_of new))
+    (Rises (console_failures old) (console_failures new)) ran → Runs old new most ran
+runs-on {old} {new} {ran} up zero a =
     let steps : List Event = replicate ran.steps Step in
     let rises : Type 0 = Rises (console_failures old) (console_failures new) in
     record {
-      answers =
-          subst (λ (m : View). Tells m new.machine steps (console_of old) (console_of new) rises ran.answer) same
-          (subst (λ (b : List ℕ). Tells mid new.machine steps b (console_of new) rises ran.answer) kept
-          (tells-of mid new.machine steps bytes (console_of new) rises ran.answer zero
-          (rises-sooner mid new.machine steps (Some bytes) (Some (console_of new))
-          (Rises failed (console_failures new)) rises ran.answer
-          (λ r. Rises-later (console_failures old) failed (console_failures new) later r rose) a.gives)));
-      far = subst (λ (m : View). IsAsFar m new.machine most ran) same a.far;
-      none = never mid new.machine steps (Some bytes) (Some (console_of new)) (Rises failed (console_failures new))
-          ran.steps ran.answer (subst IsUp (sym same) up) a.gives;
+      answers = tells-of old.machine new.machine steps (console_of old) (console_of new) rises ran.answer zero a.gives;
+      far = a.far;
+      none = never old.machine new.machine steps (Some (console_of old)) (Some (console_of new)) rises ran.steps
+          ran.answer up a.gives;
     }
 
 -- a machine that had stopped

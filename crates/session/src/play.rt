@@ -1,10 +1,10 @@
 //! Steps of a machine over a disk in memory.
-ghost use Rattle.std.specs.Prelude.{◌≡◌, ◌≤◌, false, true};
+ghost use Rattle.std.specs.Prelude.{◌≤◌};
 ghost use Rattle.machine.specs.View.{IsUp};
 ghost use Rattle.session.specs.Played.{AdvancesTo};
 
 use blockdev::MemDisk;
-use console::{Out, Writer};
+use console::Out;
 use machine::{Halt, Machine};
 use sv39::Tlb;
 use unixmodel::event::Event;
@@ -16,21 +16,6 @@ pub struct Ran {
     pub steps: u32,
     /// Why the machine stops.
     pub answer: Result<(), Halt>,
-}
-
-/// Whether a machine takes events. Nothing changes.
-pub fn is_up(machine: &mut Machine<MemDisk, Tlb<64>>, out: &mut Writer<Vec<u8>>) -> bool
-    ensures up { result ≡ true → IsUp machine.old }
-    ensures stopped { result ≡ false → ¬ IsUp machine.old }
-    ensures same { machine.new ≡ machine.old }
-    ensures bytes { out.new.inner.items ≡ out.old.inner.items }
-    ensures later { out.old.failed ≤ out.new.failed }
-{
-    // The count of failures of a disk in memory stays 0.
-    let _disk = machine.device();
-    let done = machine.run(&[], out);
-    let _disk = machine.device();
-    done.is_ok()
 }
 
 /// Takes steps of a machine that takes events while a process runs or is ready, at most `most`.

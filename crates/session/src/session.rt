@@ -9,7 +9,7 @@ ghost use Rattle.unixmodel.specs.declared.event.Event.TheVariants.{Key, Step, Ti
 ghost use Rattle.unixmodel.specs.Next.{next};
 
 use crate::looks::copy_front;
-use crate::play::{Ran, advance, is_up};
+use crate::play::{Ran, advance};
 use blockdev::MemDisk;
 use console::Writer;
 use image::ImageFault;
@@ -100,7 +100,7 @@ impl Session {
     pub fn run(&mut self, most: u32) -> Ran
         ensures { Runs self.old self.new most result }
     {
-        if !is_up(&mut self.machine, &mut self.console) {
+        if !self.machine.is_up() {
             return Ran {
                 steps: 0,
                 answer: Err(Halt::Halted),
