@@ -1,5 +1,5 @@
 -- Whether anything goes on: who runs, who is ready, and who sleeps.
-use Rattle.std.specs.Prelude.{Bool, Option, false, is_none, option_and_then, not, option_map, true, ℕ, ◌&&◌}
+use Rattle.std.specs.Prelude.{Bool, List, Option, false, is_none, option_and_then, not, option_map, true, ℕ, ◌&&◌}
 use Rattle.std.specs.List.{list_any}
 use Rattle.kernel.specs.Ready.{has_slept}
 use Rattle.unixmodel.specs.declared.call.Call.{Call}
@@ -16,6 +16,10 @@ running_process s = option_and_then (process_at s) (running s)
 
 abbrev pub running_pid : State → Option ℕ
 running_pid s = option_map (λ (p : Process). p.pid) (running_process s)
+
+-- what a hart has of a process: the registers and the pc
+abbrev pub on_hart_of : Process → List ℕ × ℕ
+on_hart_of p = (p.registers, p.pc)
 
 -- no process runs, and none is ready: a step changes nothing
 abbrev pub is_idle : State → Bool

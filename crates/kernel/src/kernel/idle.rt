@@ -1,10 +1,10 @@
 //! Whether a kernel has anything to do.
-ghost use Rattle.std.specs.Prelude.{◌≡◌, None};
+ghost use Rattle.std.specs.Prelude.{◌≡◌, None, option_map};
 ghost use Rattle.std.specs.List.{list_any};
 ghost use Rattle.files.specs.Pipes.{IsPiped};
 ghost use Rattle.files.specs.Places.{opens_of};
 ghost use Rattle.kernel.specs.Idle.{is_anyone_asleep, is_idle, is_sleep, is_sleeping_mode, is_time_awaited};
-ghost use Rattle.kernel.specs.Idle.{picked_pid, running_pid, sleeps_on_at};
+ghost use Rattle.kernel.specs.Idle.{on_hart_of, picked_pid, running_pid, running_process, sleeps_on_at};
 ghost use Rattle.kernel.specs.Kernel.{state_of, ticked};
 ghost use Rattle.kernel.specs.Ready.{awaited, seen};
 ghost use Rattle.proc.specs.declared.process.Process.{Process};
@@ -133,6 +133,18 @@ impl<D: BlockDev, T: Translate> Kernel<D, T> {
         match self.active() {
             None => None,
             Some(at) => Some(self.pid(at)),
+        }
+    }
+
+    /// The registers and the pc of the process that runs.
+    pub fn hart_state(&self) -> Option<(&[u64; 32], u64)>
+        ensures { option_map (λ r. (r.0.now, r.1)) result
+            ≡ option_map on_hart_of (running_process (state_of self.now)) }
+    {
+        self.is_sound();
+        match self.active() {
+            None => None,
+            Some(_) => Some((self.spaces.registers(), self.spaces.pc())),
         }
     }
 

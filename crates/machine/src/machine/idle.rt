@@ -1,6 +1,7 @@
 //! Who runs, and whether a machine has anything to do.
-ghost use Rattle.std.specs.Prelude.{◌≡◌};
-ghost use Rattle.kernel.specs.Idle.{is_anyone_asleep, is_idle, is_time_awaited, picked_pid, running_pid};
+ghost use Rattle.std.specs.Prelude.{◌≡◌, option_map};
+ghost use Rattle.kernel.specs.Idle.{is_anyone_asleep, is_idle, is_time_awaited, on_hart_of, picked_pid, running_pid};
+ghost use Rattle.kernel.specs.Idle.{running_process};
 ghost use Rattle.unixmodel.specs.Next.{next};
 ghost use Rattle.unixmodel.specs.declared.event.Event.TheVariants.{Tick};
 
@@ -14,6 +15,13 @@ impl<D: BlockDev, T: Translate> Machine<D, T> {
         ensures { result ≡ running_pid self.now.state }
     {
         self.kernel.running()
+    }
+
+    /// The registers and the pc of the process that runs; `None` where none does.
+    pub fn hart_state(&self) -> Option<(&[u64; 32], u64)>
+        ensures { option_map (λ r. (r.0.now, r.1)) result ≡ option_map on_hart_of (running_process self.now.state) }
+    {
+        self.kernel.hart_state()
     }
 
     /// The pid of the process that a turn would pick if a timer interrupt came now; `None` where none would be ready.
