@@ -253,9 +253,17 @@ def text_rows():
     yield Counted("asm of lines and labels", "line", assembled, (1000, 4000))
 
 
+def log_rows():
+    def logged(rounds):
+        job, steps = tight(True, (), rounds)
+        return dataclasses.replace(job, by=("trace", "--text", "text", "--commits", "log"), end=rf"[^\0]*{rows.ENDED}"), steps
+
+    yield Counted("a log of commits", "step", logged, (10_000, 50_000))
+
+
 def all_rows():
     """Every row, in the order in which they are counted."""
-    machines = [hart_rows, c_rows, multiply_rows, page_rows, process_rows, turn_rows, byte_rows]
+    machines = [hart_rows, c_rows, multiply_rows, page_rows, process_rows, turn_rows, byte_rows, log_rows]
     for group in [*machines, rewriting_rows, large_rows, name_rows, making_rows, checking_rows, text_rows]:
         yield from group()
 

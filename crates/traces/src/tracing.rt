@@ -23,6 +23,7 @@ use next_fault::{fault_of, word};
 use std::alloc::{AllocError, Global};
 use sv39::Translate;
 use symbolizer::Symbolizer;
+use tracetext::commit_lines::{Act, act_of};
 use tracetext::lines::Outcome;
 use tracetext::{Asked, CallText, Form, Pen, Row, Sinks, Trouble, Wanted};
 use unixmodel::event::Event;
@@ -36,13 +37,22 @@ const MOST_PIPES: usize = 100;
 /// The word of `ecall`.
 const ECALL: u32 = 0x73;
 
+// An instruction of a process: its address, its word, where that may be fetched, and what it is to do.
+#[derive(Clone, Copy)]
+struct Coming {
+    pid: u32,
+    pc: u64,
+    word: Option<u32>,
+    act: Act,
+}
+
 // What the machine is about to do.
 #[derive(Clone, Copy)]
 enum Ahead {
     // Nothing that shows.
     Nothing,
-    // An instruction of this process, and its word, where it may be fetched.
-    Instruction { seen: Seen, word: Option<u32> },
+    // An instruction.
+    Instruction(Coming),
     // A call.
     Call(Asked),
     // A turn.
@@ -102,6 +112,15 @@ fn asked_of(seen: &Seen, at: u64) -> Asked {
         ],
         at,
     }
+}
+
+// An instruction that comes, by the registers before it.
+fn coming(pid: u32, pc: u64, word: Option<u32>, registers: &[u64; 32]) -> Coming {
+    let act = match word {
+        Some(word) => act_of(word, registers),
+        None => Act::Nothing,
+    };
+    Coming { pid, pc, word, act }
 }
 
 // Empty pipes, as many as there may be.
@@ -220,12 +239,12 @@ impl<S: Sinks + Drop> Tracer<S> {
 
     // What the process that has the hart is about to do.
     fn look_at<D: BlockDev, T: Translate>(&mut self, machine: &Machine<D, T>, pid: u32) -> Ahead {
-        let Some(seen) = machine.inspect(pid) else {
+        let Some((registers, pc)) = machine.hart_state() else {
             return Ahead::Nothing;
         };
-        match word(machine, pid, seen.pc) {
-            Some(ECALL) => Ahead::Call(self.look_at_call(machine, &seen)),
-            word => self.look_at_instruction(machine, seen, word),
+        match word(machine, pid, pc) {
+            Some(ECALL) => self.look_at_ecall(machine, pid),
+            word => self.look_at_instruction(machine, coming(pid, pc, word, registers)),
         }
     }
 
@@ -234,13 +253,24 @@ impl<S: Sinks + Drop> Tracer<S> {
     fn look_at_instruction<D: BlockDev, T: Translate>(
         &mut self,
         machine: &Machine<D, T>,
-        seen: Seen,
-        word: Option<u32>,
+        coming: Coming,
     ) -> Ahead {
-        if self.pen.has(Form::Events) && fault_of(machine, seen.pid).is_some() {
-            self.take_descriptors(machine, seen.pid);
+        if self.pen.has(Form::Events) && fault_of(machine, coming.pid).is_some() {
+            self.take_descriptors(machine, coming.pid);
         }
-        Ahead::Instruction { seen, word }
+        Ahead::Instruction(coming)
+    }
+
+    // What a process does whose next instruction is a call.
+    fn look_at_ecall<D: BlockDev, T: Translate>(
+        &mut self,
+        machine: &Machine<D, T>,
+        pid: u32,
+    ) -> Ahead {
+        match machine.inspect(pid) {
+            Some(seen) => Ahead::Call(self.look_at_call(machine, &seen)),
+            None => Ahead::Nothing,
+        }
     }
 
     // What a process asks for when it is about to make a call.
@@ -307,20 +337,22 @@ impl<S: Sinks + Drop> Tracer<S> {
         }
     }
 
-    // What an instruction did that was no call.
+    // What an instruction did that was no call: a process that faults leaves the hart.
     fn after_instruction<D: BlockDev, T: Translate>(
         &mut self,
         machine: &Machine<D, T>,
-        before: &Seen,
-        word: Option<u32>,
+        done: &Coming,
     ) {
-        let Some(behind) = machine.inspect(before.pid) else {
-            return;
-        };
-        match (behind.state, word) {
-            (ProcessState::Running, Some(word)) => self.log_commit(before, &behind, word),
-            (ProcessState::Running, None) => (),
-            _ => self.faulted(machine, before),
+        match machine.hart_state() {
+            Some((registers, _)) => self.log_commit(done, registers),
+            None => self.after_fault(machine, done.pid),
+        }
+    }
+
+    // What a fault did.
+    fn after_fault<D: BlockDev, T: Translate>(&mut self, machine: &Machine<D, T>, pid: u32) {
+        if let Some(seen) = machine.inspect(pid) {
+            self.faulted(machine, &seen);
         }
     }
 
@@ -346,7 +378,7 @@ impl<S: Sinks + Drop> Tracer<S> {
     fn follow<D: BlockDev, T: Translate>(&mut self, machine: &Machine<D, T>) {
         match self.ahead {
             Ahead::Nothing => (),
-            Ahead::Instruction { seen, word } => self.after_instruction(machine, &seen, word),
+            Ahead::Instruction(done) => self.after_instruction(machine, &done),
             Ahead::Call(asked) => self.after_call(machine, &asked),
             Ahead::Turn => self.after_turn(machine),
             Ahead::Tick => self.after_tick(),

@@ -1,1 +1,2 @@
+mod CommitLemmas
 mod NameLemmas

@@ -1,3 +1,4 @@
+pub mod Commits
 pub mod Names
 pub mod Pens
 pub mod Rows

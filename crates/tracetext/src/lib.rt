@@ -5,7 +5,9 @@
 
 mod asked;
 mod call_names;
+pub mod commit_lines;
 pub mod commits;
+mod digits;
 pub mod lines;
 mod pen;
 mod quoting;

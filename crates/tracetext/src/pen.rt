@@ -137,6 +137,17 @@ impl<S: Sinks + Drop> Pen<S> {
         }
     }
 
+    /// Writes the bytes of a line, if its form is written.
+    pub fn put_bytes(&mut self, form: Form, bytes: &[u8])
+        ensures unwanted { has self.old form ≡ false → self.new ≡ self.old }
+        ensures others { (other : Form) → other ≢ form → has self.new other ≡ has self.old other }
+        ensures given_up { has self.old form ≢ has self.new form → self.new.trouble ≢ None }
+    {
+        if self.has(form) && self.sinks.put(form, bytes).is_err() {
+            self.lose(form, Trouble::Lost(form));
+        }
+    }
+
     /// The sinks.
     pub fn into_sinks(self) -> S
         ensures { result ≡ self.sinks }

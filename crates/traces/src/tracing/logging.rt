@@ -1,11 +1,12 @@
 //! The commit log.
 
-use super::{MOST_PROCESSES, Tracer};
+use super::{Coming, MOST_PROCESSES, Tracer};
 use crate::memory::{PAGE_SIZE, read};
 use blockdev::BlockDev;
 use machine::{Call, Machine, ProcessState, Seen};
 use sv39::Translate;
-use tracetext::commits::{Comment, Commit, Note, ROW};
+use tracetext::commit_lines::{Commit, CommitLine, target};
+use tracetext::commits::{Comment, Note, ROW};
 use tracetext::{Asked, Form, Sinks};
 
 /// The bytes that fstat writes.
@@ -57,21 +58,26 @@ impl<S: Sinks + Drop> Tracer<S> {
         if self.wanted.core_is_pid { pid } else { 0 }
     }
 
-    // Writes an instruction that is done.
-    pub(super) fn log_commit(&mut self, before: &Seen, behind: &Seen, word: u32) {
-        if !self.pen.has(Form::Commits) || !self.shows(before.pid) {
+    // Writes an instruction that is done, which left these registers.
+    pub(super) fn log_commit(&mut self, done: &Coming, registers: &[u64; 32]) {
+        let Coming { pid, pc, word, act } = *done;
+        let Some(word) = word else {
+            return;
+        };
+        if !self.pen.has(Form::Commits) || !self.shows(pid) {
             return;
         }
-        let core = self.core_of(before.pid);
-        let (pc, before, behind) = (before.pc, &before.registers, &behind.registers);
+        let (core, value) = (self.core_of(pid), target(word, registers));
         let commit = Commit {
             core,
             pc,
             word,
-            before,
-            behind,
+            act,
+            value,
         };
-        self.pen.put(Form::Commits, &commit);
+        let mut line = CommitLine::new();
+        commit.put(&mut line);
+        self.pen.put_bytes(Form::Commits, line.as_slice());
     }
 
     // Writes what a call returned and wrote.
