@@ -94,14 +94,15 @@ cause_text Unknown = codes "fault"
 cause_text (Known access detail address) =
     codes "fault " ++ access.now ++ detail_text detail ++ codes " at " ++ hexadecimal address
 
-abbrev pub place_text : Option (Bor (List ℕ)) → List ℕ
-place_text None = []
-place_text (Some name) = codes " in " ++ name.now
+-- the name of a pc
+abbrev pub name_text : Option (Bor (List ℕ)) → List ℕ
+name_text None = []
+name_text (Some name) = codes " in " ++ name.now
 
--- a fault, and its place
+-- a fault, its pc, and the pc's name, if it is known
 abbrev pub fault_text : FaultText → ℕ → Option (Bor (List ℕ)) → List ℕ
 fault_text fault pc name =
-    codes "--- " ++ cause_text fault ++ codes ", pc " ++ hexadecimal pc ++ place_text name ++ codes " ---"
+    codes "--- " ++ cause_text fault ++ codes ", pc " ++ hexadecimal pc ++ name_text name ++ codes " ---"
 
 -- ---- a line
 

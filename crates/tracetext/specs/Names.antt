@@ -17,7 +17,8 @@ names =
 -- the name of the call of a number, or `call_` and the number where no call has it
 unfoldable pub call_name : ℕ → List ℕ
 call_name number =
-    if nat_lt 0 number && nat_lt number 22 then slice_index_or names (number - 1) [] else codes "call_" ++ decimal number
+    if nat_lt 0 number && nat_lt number 22 then slice_index_or names (number - 1) []
+    else codes "call_" ++ decimal number
 
 -- the number of the call of a name
 abbrev pub number_named : List ℕ → Option ℕ
