@@ -1,2 +1,3 @@
 mod CommitLemmas
 mod NameLemmas
+mod TextLemmas

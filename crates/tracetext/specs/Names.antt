@@ -1,6 +1,7 @@
 -- The calls by their names.
-use Rattle.std.specs.Prelude.{Bool, List, None, Option, Some, [], codes, cond, false, get_or, is_none, option_map}
-use Rattle.std.specs.Prelude.{ℕ, ◌+◌, ◌<◌, ◌==◌, ◌||◌, ◌≡◌, ◌∷◌}
+use Rattle.std.specs.Prelude.{Bool, List, None, Option, Some, [], codes, cond, decimal, false, get_or, is_none}
+use Rattle.std.specs.Prelude.{nat_lt, option_map, slice_index_or, ℕ, ◌+◌, ◌++◌, ◌-◌, ◌<◌, ◌==◌, ◌&&◌, ◌||◌, ◌≡◌, ◌∷◌}
+use Rattle.std.specs.Prelude.{if◌then◌else◌}
 use Rattle.std.specs.List.{slice_split}
 use Rattle.tracetext.specs.declared.call_names.CallSet.{CallSet}
 use Rattle.unixmodel.specs.Operands.{place_among}
@@ -12,6 +13,12 @@ names =
     ∷ codes "fstat" ∷ codes "chdir" ∷ codes "dup" ∷ codes "getpid" ∷ codes "sbrk" ∷ codes "sleep" ∷ codes "uptime"
     ∷ codes "open" ∷ codes "write" ∷ codes "mknod" ∷ codes "unlink" ∷ codes "link" ∷ codes "mkdir" ∷ codes "close"
     ∷ []
+
+-- the name of the call of a number, or `call_` and the number where no call has it
+unfoldable pub call_name : ℕ → List ℕ
+call_name number =
+    if nat_lt 0 number && nat_lt number 22 then slice_index_or names (number - 1) []
+    else codes "call_" ++ decimal number
 
 -- the number of the call of a name
 abbrev pub number_named : List ℕ → Option ℕ

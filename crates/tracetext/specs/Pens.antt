@@ -1,9 +1,21 @@
--- What a pen writes, and what it gave up.
-use Rattle.std.specs.Prelude.{Bool, None, Option, Some, false, ℕ, ◌≡◌}
+-- What a pen writes, where it goes, and what the pen gave up.
+use Rattle.std.specs.Prelude.{Bool, List, None, Option, Some, false, option_map, ℕ, ◌++◌, ◌≡◌, ◌≢◌}
 use Rattle.tracetext.specs.declared.pen.Form.{Form}
 use Rattle.tracetext.specs.declared.pen.Form.TheVariants.{Commits, Events, Spans, Text}
 use Rattle.tracetext.specs.declared.pen.Pen.{Pen}
 use Rattle.tracetext.specs.declared.pen.Trouble.{Trouble}
+
+-- what each form was given so far, where that is known
+abbrev pub Given : Type 0
+Given = Form → Option (List ℕ)
+
+-- a form gets these bytes at its end, where it is known what it has
+abbrev pub Appends : Form → List ℕ → Given → Given → Type 0
+Appends form bytes old new = new form ≡ option_map (λ given. given ++ bytes) (old form)
+
+-- all other forms have what they had
+abbrev pub KeepsOthers : Form → Given → Given → Type 0
+KeepsOthers form old new = (other : Form) → other ≢ form → new other ≡ old other
 
 -- whether lines of a form are written
 abbrev pub has : {S : Type 0} → Pen S → Form → Bool

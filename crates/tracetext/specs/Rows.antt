@@ -1,5 +1,5 @@
 -- Equal calls in a row.
-use Rattle.std.specs.Prelude.{min, string_bytes, ℕ, ℤ, ◌+◌, ◌-◌, ◌^◌, ◌≡◌}
+use Rattle.std.specs.Prelude.{min, string_bytes, ℤ, ◌+◌, ◌-◌, ◌^◌, ◌≡◌}
 use Rattle.tracetext.specs.declared.asked.Asked.{Asked}
 use Rattle.tracetext.specs.declared.asked.CallText.{CallText}
 use Rattle.tracetext.specs.declared.rows.Row.{Row}

@@ -1,5 +1,5 @@
 -- What an event of Chrome's trace format has.
-use Rattle.std.specs.Prelude.{List, None, Option, Some, ℕ, ℤ, ◌≡◌}
+use Rattle.std.specs.Prelude.{List, Option, ℕ, ℤ, ◌≡◌}
 use Rattle.tracetext.specs.declared.spans.Details.{Details}
 use Rattle.tracetext.specs.declared.spans.Details.TheVariants as details
 use Rattle.tracetext.specs.declared.spans.Span.{Span}

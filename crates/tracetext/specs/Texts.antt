@@ -1,5 +1,5 @@
 -- The arguments of a call as text.
-use Rattle.std.specs.Prelude.{List, [], if◌then◌else◌, nat_lt, string_bytes, ℕ, ◌≡◌}
+use Rattle.std.specs.Prelude.{[], if◌then◌else◌, nat_lt, string_bytes, ℕ, ◌≡◌}
 use Rattle.tracetext.specs.declared.asked.CallText.{CallText}
 use Rattle.tracetext.specs.declared.asked.Shown.{Shown}
 use Rattle.tracetext.specs.declared.asked.Shown.TheVariants.{Cut, Nothing}

@@ -1,5 +1,6 @@
 //! A call that a process made, and its arguments as text.
 ghost use Rattle.std.specs.Prelude.{◌≡◌, ◌-◌, ◌++◌, IsTrue, OnOk, Some, length, string_bytes, take, ◌↔◌};
+ghost use Rattle.tracetext.specs.Lines.{arguments_text, rest_text};
 ghost use Rattle.tracetext.specs.Texts.{IsEmpty, IsSameText, shown_after};
 ghost use Rattle.unixmodel.specs.Calls.{call_of};
 
@@ -124,6 +125,9 @@ impl CallText {
 pub struct Rest<'a>(&'a CallText);
 
 impl fmt::Display for Rest<'_> {
+    ghost output = { λ rest. Some (rest_text rest.0.now) };
+
+    #[tactic(auto, unfolding(crate::specs::Lines::rest_text))]
     fn fmt<W: fmt::Write>(&self, f: &mut fmt::Formatter<W>) -> fmt::Result {
         let text = self.0;
         if text.shown != Shown::Nothing {
@@ -136,6 +140,9 @@ impl fmt::Display for Rest<'_> {
 }
 
 impl fmt::Display for CallText {
+    ghost output = { λ text. Some (arguments_text text) };
+
+    #[tactic(auto, unfolding(crate::specs::Lines::arguments_text))]
     fn fmt<W: fmt::Write>(&self, f: &mut fmt::Formatter<W>) -> fmt::Result {
         f.write_str(self.front.as_str())?;
         self.rest().fmt(f)

@@ -1,6 +1,6 @@
 //! The calls by their numbers and names.
 ghost use Rattle.std.specs.Prelude.{[], ◌≡◌, ◌<◌, IfSome, MatchResult, Some, bytes_eq, false, get_or, slice_index_or};
-ghost use Rattle.tracetext.specs.Names.{IsSetOf, first_unknown, names, number_named, parts};
+ghost use Rattle.tracetext.specs.Names.{IsSetOf, call_name, first_unknown, names, number_named, parts};
 ghost use Rattle.unixmodel.specs.Calls.{call_of};
 
 use std::fmt;
@@ -92,6 +92,9 @@ fn number_named(name: &str) -> Option<usize>
 pub struct CallName(pub u32);
 
 impl fmt::Display for CallName {
+    ghost output = { λ name. Some (call_name name.0) };
+
+    #[tactic(auto, unfolding(crate::specs::Names::call_name))]
     fn fmt<W: fmt::Write>(&self, f: &mut fmt::Formatter<W>) -> fmt::Result {
         let number = self.0;
         match number.checked_sub(1) {

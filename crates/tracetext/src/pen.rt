@@ -1,6 +1,6 @@
 //! Writes lines to where each form goes.
-ghost use Rattle.std.specs.Prelude.{◌≡◌, ◌≢◌, None, Some, false};
-ghost use Rattle.tracetext.specs.Pens.{first_trouble, has, lost, set};
+ghost use Rattle.std.specs.Prelude.{◌≡◌, ◌≢◌, IfSome, None, OnOk, Some, false, true};
+ghost use Rattle.tracetext.specs.Pens.{Appends, Given, KeepsOthers, first_trouble, has, lost, set};
 
 use std::alloc::Global;
 use std::fmt;
@@ -24,8 +24,13 @@ pub struct SinkFault;
 
 /// Where the forms of a trace go.
 pub trait Sinks {
+    /// What each form was given so far, where that is known.
+    ghost given: { Self → Given } = { λ _ _. None };
+
     /// Appends bytes to those that this form has.
-    fn put(&mut self, form: Form, bytes: &[u8]) -> Result<(), SinkFault>;
+    fn put(&mut self, form: Form, bytes: &[u8]) -> Result<(), SinkFault>
+        ensures more { OnOk result (Appends form bytes.now (given self.old) (given self.new)) }
+        ensures others { KeepsOthers form (given self.old) (given self.new) };
 }
 
 /// Why a trace isn't whole.
@@ -125,6 +130,9 @@ impl<S: Sinks + Drop> Pen<S> {
         ensures unwanted { has self.old form ≡ false → self.new ≡ self.old }
         ensures others { (other : Form) → other ≢ form → has self.new other ≡ has self.old other }
         ensures given_up { has self.old form ≢ has self.new form → self.new.trouble ≢ None }
+        ensures written { has self.new form ≡ true → IfSome (L.output line.now)
+            (λ text. Appends form text (S.given self.old.sinks) (S.given self.new.sinks)) }
+        ensures elsewhere { KeepsOthers form (S.given self.old.sinks) (S.given self.new.sinks) }
     {
         if !self.has(form) {
             return;
@@ -142,6 +150,9 @@ impl<S: Sinks + Drop> Pen<S> {
         ensures unwanted { has self.old form ≡ false → self.new ≡ self.old }
         ensures others { (other : Form) → other ≢ form → has self.new other ≡ has self.old other }
         ensures given_up { has self.old form ≢ has self.new form → self.new.trouble ≢ None }
+        ensures written { has self.new form ≡ true →
+            Appends form bytes.now (S.given self.old.sinks) (S.given self.new.sinks) }
+        ensures elsewhere { KeepsOthers form (S.given self.old.sinks) (S.given self.new.sinks) }
     {
         if self.has(form) && self.sinks.put(form, bytes).is_err() {
             self.lose(form, Trouble::Lost(form));

@@ -1,14 +1,23 @@
 //! Bytes as text in quotes.
+ghost use Rattle.std.specs.Prelude.{◌≡◌, Some};
+ghost use Rattle.std.specs.Fmt.{DisplaysOnOk};
+ghost use Rattle.std.specs.List.{slice_get};
+ghost use Rattle.tracetext.specs.Quotes.{closing, is_octal_digit, octal, quoted, quoted_byte, quoted_bytes};
 
 use std::fmt;
 
+// Whether what follows begins with a digit of base 8.
+fn is_octal_digit(next: Option<u8>) -> bool
+    ensures { result ≡ is_octal_digit next }
+{
+    matches!(next, Some(b'0'..=b'7'))
+}
+
 // A byte in octal digits: three of them before another digit.
-fn write_octal<W: fmt::Write>(
-    f: &mut fmt::Formatter<W>,
-    byte: u8,
-    is_before_digit: bool,
-) -> fmt::Result {
-    if is_before_digit {
+fn write_octal<W: fmt::Write>(f: &mut fmt::Formatter<W>, byte: u8, next: Option<u8>) -> fmt::Result
+    ensures { DisplaysOnOk W.write_str_gives f.old result (Some (octal byte next)) f.new }
+{
+    if is_octal_digit(next) {
         write!(f, "\\{byte:03o}")
     } else {
         write!(f, "\\{byte:o}")
@@ -16,15 +25,42 @@ fn write_octal<W: fmt::Write>(
 }
 
 // A byte as strace quotes it, before another one or the end.
-fn write_byte<W: fmt::Write>(f: &mut fmt::Formatter<W>, byte: u8, next: Option<u8>) -> fmt::Result {
+#[tactic(auto, unfolding(crate::specs::Quotes::quoted_byte))]
+fn write_byte<W: fmt::Write>(f: &mut fmt::Formatter<W>, byte: u8, next: Option<u8>) -> fmt::Result
+    ensures { DisplaysOnOk W.write_str_gives f.old result (Some (quoted_byte byte next)) f.new }
+{
     match byte {
         b'\n' => f.write_str("\\n"),
         b'\t' => f.write_str("\\t"),
         b'"' => f.write_str("\\\""),
         b'\\' => f.write_str("\\\\"),
         b' '..=b'~' => f.write_char(char::from(byte)),
-        _ => write_octal(f, byte, matches!(next, Some(b'0'..=b'7'))),
+        _ => write_octal(f, byte, next),
     }
+}
+
+// The byte of a number.
+fn byte_at(bytes: &[u8], index: usize) -> Option<u8>
+    ensures { result ≡ slice_get bytes.now index }
+{
+    bytes.get(index).copied()
+}
+
+// Bytes as strace has them between quotes.
+fn write_bytes<W: fmt::Write>(f: &mut fmt::Formatter<W>, bytes: &[u8]) -> fmt::Result
+    ensures { DisplaysOnOk W.write_str_gives f.old result (Some (quoted_bytes bytes.now)) f.new }
+{
+    for (index, byte) in bytes.iter().enumerate() {
+        write_byte(f, *byte, byte_at(bytes, index + 1))?;
+    }
+    Ok(())
+}
+
+// The quotes after bytes, and dots where more bytes follow.
+fn closing(is_cut: bool) -> &'static str
+    ensures { result.now ≡ closing is_cut }
+{
+    if is_cut { "\"..." } else { "\"" }
 }
 
 /// Bytes in quotes, as strace writes them: `\n`, `\t`, `\"`, `\\`, and other bytes that are no text in octal.
@@ -36,13 +72,13 @@ pub struct Quoted<'a> {
 }
 
 impl fmt::Display for Quoted<'_> {
+    ghost output = { λ shown. Some (quoted shown.bytes.now shown.is_cut) };
+
+    #[tactic(auto, unfolding(crate::specs::Quotes::quoted))]
     fn fmt<W: fmt::Write>(&self, f: &mut fmt::Formatter<W>) -> fmt::Result {
         f.write_str("\"")?;
-        for (index, byte) in self.bytes.iter().enumerate() {
-            let next = self.bytes.get(index.wrapping_add(1)).copied();
-            write_byte(f, *byte, next)?;
-        }
-        f.write_str(if self.is_cut { "\"..." } else { "\"" })
+        write_bytes(f, self.bytes)?;
+        f.write_str(closing(self.is_cut))
     }
 }
 

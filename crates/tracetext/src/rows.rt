@@ -1,5 +1,5 @@
 //! Equal calls in a row, which are one line.
-ghost use Rattle.std.specs.Prelude.{◌≡◌, ◌≢◌, ◌-◌, ◌<◌, ◌++◌, IsTrue, OnOk, length, pos, take};
+ghost use Rattle.std.specs.Prelude.{◌≡◌, ◌≢◌, ◌-◌, ◌<◌, ◌++◌, IsTrue, OnOk, length, pos, string_bytes, take};
 ghost use Rattle.tracetext.specs.Rows.{Counts, Holds, IsAlike};
 ghost use Rattle.tracetext.specs.Texts.{IsEmpty};
 
@@ -81,6 +81,8 @@ impl Row {
             → OnOk result (self.new.text.«data».items ≡ self.old.text.«data».items
             ++ take (most - length self.old.text.«data».items) text.now.«data».items) }
         ensures same { self.old.answer ≢ pos 1 → self.new.text ≡ self.old.text }
+        ensures front { string_bytes self.new.text.front ≡ string_bytes self.old.text.front }
+        ensures back { string_bytes self.new.text.back ≡ string_bytes self.old.text.back }
     {
         self.times = self.times.saturating_add(1);
         if self.answer == 1 {
