@@ -115,7 +115,7 @@ fn asked_of(seen: &Seen, at: u64) -> Asked {
 }
 
 // An instruction that comes, by the registers before it.
-fn coming(pid: u32, pc: u64, word: Option<u32>, registers: &[u64; 32]) -> Coming {
+fn coming_of(pid: u32, pc: u64, word: Option<u32>, registers: &[u64; 32]) -> Coming {
     let act = match word {
         Some(word) => act_of(word, registers),
         None => Act::Nothing,
@@ -244,7 +244,7 @@ impl<S: Sinks + Drop> Tracer<S> {
         };
         match word(machine, pid, pc) {
             Some(ECALL) => self.look_at_ecall(machine, pid),
-            word => self.look_at_instruction(machine, coming(pid, pc, word, registers)),
+            word => self.look_at_instruction(machine, coming_of(pid, pc, word, registers)),
         }
     }
 

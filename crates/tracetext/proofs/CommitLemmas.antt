@@ -27,6 +27,6 @@ last_digits m n le =
     take_all (16 - (16 - m)) (drop (16 - m) (low_digits 16 n)) fits
     ∙ ap (λ count. drop (16 - m) (low_digits count n)) whole ∙ later (16 - m) m n
 
--- a digit at the right of four places
+-- a digit at the right of four columns
 pub one_digit : (n : ℕ) → n < 10 → at_right (decimal n) ≡ 32 ∷ 32 ∷ 32 ∷ (48 + n) ∷ []
 one_digit n lt = ap at_right (decimal_digit n lt)

@@ -1,6 +1,6 @@
 -- The lines of a log of commits, in the form in which Spike writes them.
-use Rattle.std.specs.Prelude.{Bool, List, [], codes, decimal, drop, if◌then◌else◌, length, nat_lt, slice_index, suc, zero, ℕ}
-use Rattle.std.specs.Prelude.{◌%◌, ◌*◌, ◌++◌, ◌+◌, ◌/◌, ◌==◌, ◌^◌, ◌||◌, ◌∷◌}
+use Rattle.std.specs.Prelude.{Bool, List, [], codes, decimal, drop, if◌then◌else◌, length, nat_lt, slice_index, suc}
+use Rattle.std.specs.Prelude.{zero, ℕ, ◌%◌, ◌*◌, ◌++◌, ◌+◌, ◌/◌, ◌==◌, ◌^◌, ◌||◌, ◌∷◌}
 use Rattle.tracetext.specs.declared.commit_lines.Act.{Act}
 use Rattle.tracetext.specs.declared.commit_lines.Act.TheVariants.{Load, Nothing, Register, Store}
 use Rattle.unixmodel.specs.Numbers.{extend, plus}
@@ -17,11 +17,11 @@ low_digits (suc k) n = slice_index (codes "0123456789abcdef") (n / 16 ^ k % 16) 
 abbrev pub wide : ℕ → List ℕ
 wide n = codes "0x" ++ low_digits 16 n
 
--- a text at the right of four places
+-- a text at the right of four columns
 abbrev pub at_right : List ℕ → List ℕ
 at_right text = drop (length text) (codes "    ") ++ text
 
--- a number below 100 at the left of two places
+-- a number below 100 at the left of two columns
 abbrev pub at_left : ℕ → List ℕ
 at_left n = if nat_lt n 10 then (48 + n) ∷ 32 ∷ [] else (48 + n / 10) ∷ (48 + n % 10) ∷ []
 

@@ -131,7 +131,7 @@ fn put_wide(line: &mut CommitLine, value: u64)
     put(line, &sixteen(value));
 }
 
-// A number below 10, at the right of four places.
+// A number below 10, at the right of four columns.
 #[inline(always)]
 #[tactic(auto, using(crate::proofs::CommitLemmas::one_digit))]
 fn one_at_right(number: u32) -> [u8; 4]
@@ -141,7 +141,7 @@ fn one_at_right(number: u32) -> [u8; 4]
     [b' ', b' ', b' ', b'0' + number as u8]
 }
 
-// Puts a core's number there, at the right of four places.
+// Puts a core's number there, at the right of four columns.
 fn put_core(line: &mut CommitLine, core: u32)
     requires { array_vec_len line.old ≤ 86 }
     ensures items { line.new.items ≡ line.old.items ++ at_right (decimal core) }
@@ -157,7 +157,7 @@ fn put_core(line: &mut CommitLine, core: u32)
     put(line, text);
 }
 
-// A number below 100, at the left of two places.
+// A number below 100, at the left of two columns.
 #[inline(always)]
 fn at_left(number: u32) -> [u8; 2]
     requires { number < 100 }
