@@ -1,0 +1,12 @@
+pub mod Slots
+pub mod Tables
+pub mod States
+pub mod Outcomes
+pub mod Opening
+pub mod Transfers
+pub mod Rows
+pub mod Going
+pub mod Turns
+pub mod Laws
+pub mod Starts
+pub mod Clocks
