@@ -7,8 +7,8 @@ use Rattle.renumbering.proofs.Tables.{same_numbers, way_back}
 use Rattle.renumbering.proofs.Going.{SeenAfter}
 use Rattle.renumbering.proofs.States.{Fits, Seen, View, state_in}
 use Rattle.renumbering.proofs.Turns.{event-in}
-use Rattle.renumbering.specs.Renumbered.{AreRenumbered, EventKeepsRenumbered, IsRenumbered, NamesAreThere}
-use Rattle.renumbering.specs.Renumbered.{AreOpen, EachTaken, IsMoved, IsOnPipeThere, Renumbering, RenumberedIsEquivalence}
+use Rattle.renumbering.specs.Renumbered.{AreRenumbered, EventKeepsRenumbered, IsRenumbered, NamesAreThere, AreOpen}
+use Rattle.renumbering.specs.Renumbered.{EachTaken, IsMoved, IsOnPipeThere, Renumbering, RenumberedIsEquivalence}
 use Rattle.renumbering.specs.Renumbered.{RunKeepsRenumbered, file_moved, places_moved, process_moved, target_moved}
 use Rattle.unixmodel.specs.Calls.{After}
 use Rattle.unixmodel.specs.Files.{slot}

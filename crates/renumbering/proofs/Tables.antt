@@ -41,7 +41,7 @@ one_then r q = record {
   there_back = λ k. ap q.there (r.there_back (q.back k)) ∙ q.there_back k;
 }
 
--- a and b in each other's place
+-- a and b exchanged
 abbrev pub swapped : ℕ → ℕ → ℕ → ℕ
 swapped a b k = if k == a then b else if k == b then a else k
 

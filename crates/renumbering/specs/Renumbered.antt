@@ -22,8 +22,8 @@ pub record Renumbering : Type 0 where
   pub back_there : (k : ℕ) → back (there k) ≡ k
   pub there_back : (k : ℕ) → there (back k) ≡ k
 
--- Table ys is table xs with each slot at its other number: the slot is free there, too, or holds what is made of what it
--- holds here. A number is one of a slot exactly if the other number is.
+-- Table ys is table xs with each slot at its other number: the slot is free there, too, or holds what is made of what
+-- it holds here. A number is one of a slot exactly if the other number is.
 pub record IsMoved {X : Type 0} (r : Renumbering) (made : X → X) (xs ys : List (Option X)) : Type 0 where
   pub holds : (k : ℕ) → slot ys (r.there k) ≡ option_map made (slot xs k)
   pub slots : (k : ℕ) → nat_lt (r.there k) (length ys) ≡ nat_lt k (length xs)

@@ -9,7 +9,7 @@ use Rattle.tracetext.specs.declared.lines.Outcome.TheVariants.{Answered}
 use Rattle.tracetext.specs.declared.rows.Row.{Row}
 use Rattle.traces.specs.declared.tracing.Tracer.{Tracer}
 
--- the number of the event after so many
+-- the number of the event after n others
 abbrev pub number_after : ℕ → ℕ
 number_after at = min (at + 1) (2 ^ 64 - 1)
 
