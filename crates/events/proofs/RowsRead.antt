@@ -2,7 +2,7 @@
 use Rattle.std.proofs.Common.{◌≡◌, ◌∙◌, ◌+◌, ◌*◌, ◌<◌, ◌≤◌, ◌++◌, ◌%◌, ◌/◌, ℕ, List, [], ◌∷◌, refl, length, map, subst}
 use Rattle.std.proofs.Common.{sym, ap, arith, false, true, append_assoc, append-nil, get_or, drop, replicate, Some}
 use Rattle.std.proofs.Common.{None, Option, Bool, inl, inr}
-use Rattle.std.specs.Prelude.{◌==◌, slice_index, suc, zero, ⊤, IfSome, ◌⊎◌}
+use Rattle.std.specs.Prelude.{◌==◌, flat_map, slice_index, suc, zero, ⊤, IfSome, ◌⊎◌}
 use Rattle.std.specs.Fmt.{decimal, digit_glyph}
 use Rattle.std.specs.List.{All, slice_index_or}
 use Rattle.std.specs.Str.Parse.{AllDigits, digits_value}
@@ -20,7 +20,7 @@ use Rattle.std.specs.Global.{Vec}
 use denote.RawPtr.{null_ptr}
 use Rattle.events.specs.Rows.{IsRow, bytes_text, row_events, row_line, row_text, rows_events, rows_text}
 use Rattle.events.specs.Scripts.{IsScriptOf, command_events, script_events}
-use Rattle.events.specs.Transcripts.{TranscriptsAreRead, events_in}
+use Rattle.events.specs.Transcripts.{TranscriptsAreRead, events_in, hex_bytes, line_events, or_zero, text_events}
 use Rattle.events.specs.declared.row.Row.{Row}
 use Rattle.events.specs.declared.row.Row.TheVariants as row
 use Rattle.events.specs.Commands.{IsCommand}
@@ -62,15 +62,11 @@ text-pairs (b ∷ keys) (suc k) bytes within =
 keys-written : (keys : List ℕ) → All (λ key. key < 256) keys → IsHexOf (bytes_text keys) keys
 keys-written keys bytes = record { pairs = text-length keys; each = λ k within. text-pairs keys k bytes within }
 
-abbrev or-zero : Option ℕ → ℕ
-or-zero None = 0
-or-zero (Some n) = n
-
 -- digits write one list of bytes
 one-reading : (digits xs ys : List ℕ) → IsHexOf digits xs → IsHexOf digits ys → xs ≡ ys
 one-reading digits xs ys a b =
     let long : length xs ≡ length ys = omega (arith, a.pairs, b.pairs) in
-    ext_get_or 0 xs ys long (λ i less. ap or-zero (sym (a.each i less) ∙ b.each i (omega (arith, less, long))))
+    ext_get_or 0 xs ys long (λ i less. ap or_zero (sym (a.each i less) ∙ b.each i (omega (arith, less, long))))
 
 -- ---- a line says its row's events alone
 
@@ -255,3 +251,25 @@ text-read false rows last old text kept fit fits is (inr none) =
     let same : rows_events (rows ++ last ∷ []) ≡ rows_events rows =
     with-last rows last ∙ ap (λ es. rows_events rows ++ es) none.0 ∙ append-nil (rows_events rows) in
     rw (same, none.1, is) (are-read rows fit)
+
+-- ---- the events of a text
+
+bytes-again : (keys : List ℕ) → All (λ key. key < 256) keys → hex_bytes (bytes_text keys) ≡ keys
+bytes-again [] small = refl
+bytes-again (b ∷ keys) small =
+    let rest = bytes-again keys (λ k d less. small (suc k) d (omega (arith, less))) in
+    rw (pair-read b (small 0 b (omega arith)), rest) refl
+
+row-again : (r : Row) → IsRow r → line_events (row_line r) ≡ row_events r
+row-again (row.Steps n) within = ap (λ k. replicate k event.Step) (counted n within).value
+row-again (row.Ticks n) within = ap (λ k. replicate k event.Tick) (counted n within).value
+row-again (row.Keys keys) within = ap (map event.Key) (bytes-again keys.items within.0)
+
+-- a text of rows has their events
+pub text-events : (rows : List Row) → All IsRow rows → text_events (rows_text rows) ≡ rows_events rows
+unfolding text_events
+text-events [] fit = refl
+text-events (r ∷ rows) fit =
+    ap (flat_map line_events) (lines-more r rows (head-fits r rows fit))
+    ∙ ap (λ es. es ++ text_events (rows_text rows)) (row-again r (head-fits r rows fit))
+    ∙ ap (λ es. row_events r ++ es) (text-events rows (tail-fits r rows fit))
