@@ -1,15 +1,16 @@
 -- What the text of a trace says of calls, and the calls that are held back.
 use Rattle.std.specs.Prelude.{Bool, IfSome, List, None, Option, Some, false, get_or, if◌then◌else◌, min, true}
-use Rattle.std.specs.Prelude.{ℕ, ℤ, ◌+◌, ◌++◌, ◌-◌, ◌<◌, ◌^◌, ◌≡◌, ◌≤◌}
+use Rattle.std.specs.Prelude.{string_bytes, ℕ, ℤ, ◌+◌, ◌++◌, ◌-◌, ◌<◌, ◌^◌, ◌≡◌, ◌≤◌}
 use Rattle.tracetext.specs.Lines.{line_saying, outcome_text}
 use Rattle.tracetext.specs.Wishes.{IsOf}
 use Rattle.tracetext.specs.declared.asked.Asked.{Asked}
+use Rattle.tracetext.specs.declared.asked.CallText.{CallText}
 use Rattle.tracetext.specs.declared.lines.Outcome.{Outcome}
 use Rattle.tracetext.specs.declared.lines.Outcome.TheVariants.{Answered}
 use Rattle.tracetext.specs.declared.rows.Row.{Row}
 use Rattle.traces.specs.declared.tracing.Tracer.{Tracer}
 
--- the number of the event after n others
+-- the number of the event after `at` events
 abbrev pub number_after : ℕ → ℕ
 number_after at = min (at + 1) (2 ^ 64 - 1)
 
@@ -43,9 +44,11 @@ row_line tracer =
 abbrev pub EndsWith : List ℕ → Option (List ℕ) → Type 0
 EndsWith line given = IfSome given (λ text. (front : List ℕ) × (text ≡ front ++ line))
 
--- the row has this call with this answer
-pub record IsHeld (row : Row) (asked : Asked) (answer : ℤ) : Type 0 where
+-- the row has this call, its arguments before and after a buffer, and its answer
+pub record IsHeld (row : Row) (asked : Asked) (text : CallText) (answer : ℤ) : Type 0 where
   pub times : 0 < row.times
   pub pid : row.pid ≡ asked.pid
   pub number : row.number ≡ asked.number
   pub answered : row.answer ≡ answer
+  pub front : string_bytes row.text.front ≡ string_bytes text.front
+  pub back : string_bytes row.text.back ≡ string_bytes text.back

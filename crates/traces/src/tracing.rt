@@ -1,7 +1,8 @@
 //! The tracer: looks at a machine before and after its events, and writes what it did.
-ghost use Rattle.std.specs.Prelude.{◌≡◌, IfOk, None};
+ghost use Rattle.std.specs.Prelude.{◌≡◌, IfOk, IsTrue, None};
 ghost use Rattle.tracetext.specs.Pens.{has};
 ghost use Rattle.traces.specs.Forms.{wants};
+ghost use Rattle.traces.specs.Saying.{Shows, ShowsCall, number_after};
 
 mod beginning;
 mod drawing;
@@ -198,17 +199,23 @@ impl<S: Sinks + Drop> Tracer<S> {
     }
 
     // The number of the event, counted from 1.
-    fn number(&self) -> u64 {
+    fn number(&self) -> u64
+        ensures { result ≡ number_after self.now.at }
+    {
         self.at.saturating_add(1)
     }
 
     // Whether the events of a process are shown now.
-    fn shows(&self, pid: u32) -> bool {
+    fn shows(&self, pid: u32) -> bool
+        ensures { Shows self.now pid → IsTrue result }
+    {
         self.wanted.has_event(self.number()) && self.wanted.has_process(pid)
     }
 
     // Whether a call of a process is shown now.
-    fn shows_call(&self, asked: &Asked) -> bool {
+    fn shows_call(&self, asked: &Asked) -> bool
+        ensures { ShowsCall self.now asked.now → IsTrue result }
+    {
         self.shows(asked.pid) && self.wanted.calls.contains(asked.number)
     }
 

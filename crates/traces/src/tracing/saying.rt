@@ -1,4 +1,8 @@
 //! The text in strace's manner.
+ghost use Rattle.std.specs.Prelude.{◌≡◌, ◌≢◌, OnOk, true};
+ghost use Rattle.tracetext.specs.Pens.{Appends, has};
+ghost use Rattle.tracetext.specs.declared.pen.Form.TheVariants as form;
+ghost use Rattle.traces.specs.Saying.{EndsWith, IsHeld, ShowsCall, call_line, row_line, stamp};
 
 use super::Tracer;
 use addresses::Name;
@@ -8,7 +12,9 @@ use tracetext::{Asked, Form, Sinks};
 
 impl<S: Sinks + Drop> Tracer<S> {
     // The number of the event at a time, where it is shown.
-    fn stamp(&self, at: u64) -> Option<u64> {
+    fn stamp(&self, at: u64) -> Option<u64>
+        ensures { result ≡ stamp self.now.wanted.times at }
+    {
         if self.wanted.times {
             Some(at.saturating_add(1))
         } else {
@@ -17,7 +23,15 @@ impl<S: Sinks + Drop> Tracer<S> {
     }
 
     // Writes the calls in a row that were held back.
-    pub(super) fn say_row(&mut self) {
+    #[tactic(auto, unfolding(tracetext::specs::Lines::says_text))]
+    pub(super) fn say_row(&mut self)
+        ensures none { self.new.row.times ≡ 0 }
+        ensures line { self.old.row.times ≢ 0 → has self.new.pen form.Text ≡ true → Appends form.Text
+            (row_line self.old) (S.given self.old.pen.sinks) (S.given self.new.pen.sinks) }
+        ensures at { self.new.at ≡ self.old.at }
+        ensures wanted { self.new.wanted ≡ self.old.wanted }
+        ensures text { self.new.text ≡ self.old.text }
+    {
         let times = self.row.times;
         if times == 0 {
             return;
@@ -73,25 +87,37 @@ impl<S: Sinks + Drop> Tracer<S> {
         self.say(pid, says);
     }
 
+    // Holds back a call: with those that are held back, if it goes on with them.
+    fn hold(&mut self, asked: &Asked, answer: i64) -> Result<(), AllocError>
+        ensures { OnOk result (IsHeld self.new.row asked.now self.new.text answer) }
+    {
+        let most = self.wanted.most();
+        if self.wanted.joins && self.row.takes(asked, &self.text, answer) {
+            return self.row.go_on(&self.text, most);
+        }
+        self.say_row();
+        self.row.begin(asked, &self.text, answer)
+    }
+
     // Holds back a call that returned at once, since equal ones may follow.
-    pub(super) fn say_answered(&mut self, asked: &Asked, answer: i64) {
+    pub(super) fn say_answered(&mut self, asked: &Asked, answer: i64)
+        ensures { ShowsCall self.new asked.now → has self.new.pen form.Text ≡ true
+            → IsHeld self.new.row asked.now self.new.text answer }
+    {
         if !self.shows_call(asked) || !self.pen.has(Form::Text) {
             return;
         }
-        let most = self.wanted.most();
-        let done = if self.wanted.joins && self.row.takes(asked, &self.text, answer) {
-            self.row.go_on(&self.text, most)
-        } else {
-            self.say_row();
-            self.row.begin(asked, &self.text, answer)
-        };
-        if done.is_err() {
+        if self.hold(asked, answer).is_err() {
             self.pen.starve();
         }
     }
 
     // Writes what becomes of a call.
-    pub(super) fn say_call(&mut self, asked: &Asked, outcome: Outcome) {
+    #[tactic(auto, using(crate::proofs::SayingLemmas::ends), unfolding(tracetext::specs::Lines::says_text))]
+    pub(super) fn say_call(&mut self, asked: &Asked, outcome: Outcome)
+        ensures { ShowsCall self.new asked.now → has self.new.pen form.Text ≡ true
+            → EndsWith (call_line self.new asked.now outcome) (S.given self.new.pen.sinks form.Text) }
+    {
         if !self.shows_call(asked) {
             return;
         }

@@ -1,4 +1,9 @@
 //! What becomes of processes: who gets the hart, whose call returns, who ends.
+ghost use Rattle.std.specs.Prelude.{◌≡◌, false, true};
+ghost use Rattle.tracetext.specs.Pens.{has};
+ghost use Rattle.tracetext.specs.declared.lines.Outcome.TheVariants.{Resumed};
+ghost use Rattle.tracetext.specs.declared.pen.Form.TheVariants as form;
+ghost use Rattle.traces.specs.Saying.{EndsWith, IsHeld, ShowsCall, call_line};
 
 use super::beginning::done_of;
 use super::{Tracer, answer_of};
@@ -118,6 +123,20 @@ impl<S: Sinks + Drop> Tracer<S> {
         self.give_hart(None);
     }
 
+    // Says what a call returned: of one that did in a turn by a line, of others with equal ones that may follow.
+    fn say_return(&mut self, asked: &Asked, answer: i64, is_resumed: bool)
+        ensures resumed { is_resumed ≡ true → ShowsCall self.new asked.now → has self.new.pen form.Text ≡ true
+            → EndsWith (call_line self.new asked.now (Resumed answer)) (S.given self.new.pen.sinks form.Text) }
+        ensures held { is_resumed ≡ false → ShowsCall self.new asked.now → has self.new.pen form.Text ≡ true
+            → IsHeld self.new.row asked.now self.new.text answer }
+    {
+        if is_resumed {
+            self.say_call(asked, Outcome::Resumed(answer));
+        } else {
+            self.say_answered(asked, answer);
+        }
+    }
+
     // A call returned, at once or in a turn.
     pub(super) fn answered<D: BlockDev, T: Translate>(
         &mut self,
@@ -131,11 +150,7 @@ impl<S: Sinks + Drop> Tracer<S> {
             self.describe(machine, asked, Some(answer));
             self.take_handed(machine, asked, Some(answer));
         }
-        if is_resumed {
-            self.say_call(asked, Outcome::Resumed(answer));
-        } else {
-            self.say_answered(asked, answer);
-        }
+        self.say_return(asked, answer, is_resumed);
         self.note_call(asked, answer);
         self.draw_call(asked, Some(answer));
         self.draw_pipes(machine, Some(asked), false);
