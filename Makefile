@@ -154,11 +154,11 @@ check-docs:
 
 # ---- what is tried by hand; CONTRIBUTING.md says what each needs and takes
 
-# Times the program beside a plain Rust interpreter of the same design.
+# Times the program beside a plain Rust interpreter of the same design, and where they are installed beside qemu and the host's own code.
 bench: | program
 	bench/run.py $(PROGRAM)
 
-# Measures what docs/MEASURED.md and the README say, and writes it there: half an hour.
+# Measures what docs/MEASURED.md and the README say, and writes it there: an hour.
 measure: | program
 	bench/report.py $(PROGRAM)
 

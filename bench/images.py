@@ -108,12 +108,12 @@ def many_inodes(inodes):
     return image.finish({})
 
 
-def many_blocks(size, init=b""):
-    """An image whose blocks are all in use, by files that are as long as they can be, and by the program `init`."""
+def many_blocks(size, init=b"", free=0):
+    """An image whose blocks are all in use but that many, by files that are as long as they can be, and by the program `init`."""
     image = Image(size, 128)
     contents = {image.file(1, b"init"): init}
     blocks = -(-len(init) // BLOCK)
-    room = image.room() - 1 - blocks - index_blocks(blocks)
+    room = image.room() - 1 - blocks - index_blocks(blocks) - free
     while room > 0:
         blocks = most_in(room)
         contents[image.file(1, b"f%d" % image.next_inode)] = b"x" * BLOCK * blocks

@@ -69,7 +69,7 @@ def tight(booted, flags, rounds):
 
 
 def memory(booted, flags, rounds):
-    return on_hart(Program("memory", ROUNDS=rounds), booted, flags), rounds * (8 * 2048 + 4) + 7
+    return on_hart(Program("memory", ROUNDS=rounds), booted, flags), rounds * (8 * 2048 + 3) + 10
 
 
 def on_hart(program, booted, flags):
@@ -91,8 +91,32 @@ def c_rows():
     def stepped(name, steps):
         return Flat(Compiled(name), f"step {steps}\n", end=rows.RUNNING), steps
 
+    # The others begin with what they do only once.
+    from_start = {"mandelbrot", "queens", "floats"}
     for name in rows.C_STEPS:
-        yield Counted(f"{name} in C", "step", functools.partial(stepped, name), (100_000, 500_000))
+        sizes = (100_000, 500_000) if name in from_start else (500_000, 1_500_000)
+        yield Counted(f"{name} in C", "step", functools.partial(stepped, name), sizes)
+
+
+def clash_rows():
+    def clashing(pages, rounds):
+        return rows.clash(pages, rounds), rows.CLASH_STEPS * rounds
+
+    for pages in (1, rows.APART):
+        name = f"functions in two pages whose frames differ by {pages}"
+        yield Counted(name, "step", functools.partial(clashing, pages), (1000, 5000))
+
+
+def look_rows():
+    def logged(calls):
+        job = booting({"init": Program("seldom", CALLS=calls, ROUNDS=497)})
+        return dataclasses.replace(job, by=("trace", "--text", "text", "--commits", "log")), (2 * 497 + 7) * calls
+
+    def explored(calls):
+        return rows.exploring(calls), rows.STATES[calls]
+
+    yield Counted("trace --commits", "step", logged, (10, 50))
+    yield Counted("explore", "state", explored, (4, 8))
 
 
 def multiply_rows():
@@ -206,9 +230,22 @@ def name_rows():
     for what, size in [("no bytes", 0), ("100 bytes", 100)]:
         name = f"files of {what} made, opened and unlinked in one directory"
         yield Counted(name, "file, of 180", functools.partial(named, size), (60, 180))
+    thousand = lambda files: (rows.naming(files, 0), files)
+    yield Counted("files of no bytes made, opened and unlinked in one directory", "file, of 1000", thousand, (600, 1000))
 
 
 # ---- images and texts
+
+
+def small_file_rows():
+    for name, job in [
+        ("check", lambda size: Check(functools.partial(rows.roomy, size))),
+        ("ls", rows.list_small),
+        ("get of 180 bytes", rows.get_small),
+        ("put of 100 bytes", rows.put_small),
+    ]:
+        yield Counted(f"{name} on an image of few files", "block", lambda size, job=job: (job(size), size), (2000, 6000))
+    yield Counted("mkfs of two files", "block", lambda size: (rows.two_files(size), size), (500, 1500))
 
 
 def making_rows():
@@ -255,21 +292,36 @@ def text_rows():
 
 def all_rows():
     """Every row, in the order in which they are counted."""
-    machines = [hart_rows, c_rows, multiply_rows, page_rows, process_rows, turn_rows, byte_rows]
-    for group in [*machines, rewriting_rows, large_rows, name_rows, making_rows, checking_rows, text_rows]:
+    machines = [hart_rows, c_rows, clash_rows, multiply_rows, look_rows, page_rows, process_rows, turn_rows, byte_rows]
+    files = [rewriting_rows, large_rows, name_rows, small_file_rows, making_rows, checking_rows]
+    for group in [*machines, *files, text_rows]:
         yield from group()
 
 
 # ---- counting
 
 
-def count_run(job, place):
-    """The instructions of a run of a job, in all and by function."""
+def profile_of(job, place):
+    """What callgrind writes of a run of a job."""
     command = job.command(place)
     out, log = command.folder / "callgrind.out", command.folder / "callgrind.log"
     valgrind = ["valgrind", "--tool=callgrind", f"--callgrind-out-file={out}", f"--log-file={log}"]
     run(dataclasses.replace(command, words=[*valgrind, *command.words]))
-    return by_function(out.read_text())
+    return out.read_text()
+
+
+def calls_of(word, profile):
+    """How often functions are called whose names have a word, and the instructions of these calls with all that they call."""
+    names, called, calls, spent, lines = {}, "", 0, 0, iter(profile.splitlines())
+    for line in lines:
+        if found := re.fullmatch(r"(c?)fn=\((\d+)\)(?: (.*))?", line):
+            names.setdefault(found[2], found[3])
+            called = names[found[2]] if found[1] else called
+        elif line.startswith("calls="):
+            cost = int(next(lines).split()[1])
+            if word in called:
+                calls, spent = calls + int(line[len("calls=") :].split()[0]), spent + cost
+    return calls, spent
 
 
 FUNCTION = re.compile(r"fn=\((\d+)\)(?: (.*))?")
@@ -299,7 +351,7 @@ def count_unit(row, place, **changes):
         place = dataclasses.replace(place, folder=pathlib.Path(folder))
         for size in row.sizes:
             job, units = row.sized(size)
-            took.append((count_run(dataclasses.replace(job, **changes), place), units))
+            took.append((by_function(profile_of(dataclasses.replace(job, **changes), place)), units))
     (less, fewer), (more, units) = took
     return {name: (more[name] - less[name]) / (units - fewer) for name in less | more}
 

@@ -6,6 +6,7 @@ Each job makes its files in a folder of its own, and returns the command to be t
 import dataclasses
 import pathlib
 import re
+import shutil
 import struct
 import subprocess
 import tempfile
@@ -70,15 +71,20 @@ class Program:
         return self.elf(place)[4096:]
 
 
+# How many pages the programs have that write what is zero at the start.
+PAGES = {"sort": 21, "memcp": 9, "chase": 201}
+
+
 class Compiled:
-    """A C program of `bench/c`: the bytes that are stored beside its text."""
+    """A C program of `bench/c`: the bytes that are stored beside its text, and zeros up to its end."""
 
     def __init__(self, name):
         self.bytes = HERE / "c" / f"{name}.bin"
+        self.length = 4096 * PAGES.get(name, 0)
 
     def flat(self, place):
         """The bytes."""
-        return self.bytes.read_bytes()
+        return self.bytes.read_bytes().ljust(self.length, b"\0")
 
 
 # What runs a flat program.
@@ -110,6 +116,69 @@ class Flat:
         return Command(words, folder, self.stdout, rf"{end} after {self.steps or '[0-9]+'} steps")
 
 
+# What runs the instructions of a program that only computes, where it is installed: qemu, which translates them, as a process of
+# Linux or as a computer of its own, and the host's own code of the same text.
+QEMU_USER, QEMU_SYSTEM, NATIVE = "qemu-riscv64", "qemu-system-riscv64", "cc"
+
+# Debian's package qemu-user-static has the first under another name.
+STATIC = "qemu-riscv64-static"
+
+COMPUTER = ["-machine", "virt", "-display", "none", "-serial", "none", "-monitor", "none"]
+
+
+def found(tool):
+    """Where a tool is, or none."""
+    return shutil.which(tool) or (shutil.which(STATIC) if tool == QEMU_USER else None)
+
+
+# An exit as a compiler and as `xv6 asm` write it, and one of Linux: the call has another number there.
+EXITS = [
+    (struct.pack("<2I", number | 2 << 20, 0x73), struct.pack("<2I", number | 93 << 20, 0x73))
+    for number in (0x893, 0x88893)
+]
+
+
+def linux_program(content):
+    """A program of Linux whose one segment is these bytes, all of which may be written and executed."""
+    for exits, as_linux in EXITS:
+        content = content.replace(exits, as_linux)
+    base, offset, length = 0x100000, 4096, len(content)
+    head = struct.pack("<16s2HI3QI6H", b"\x7fELF\2\1\1", 2, 243, 1, base, 64, 0, 0, 64, 56, 1, 0, 0, 0)
+    segment = struct.pack("<2I6Q", 1, 7, offset, base, base, length, length, 4096)
+    return (head + segment).ljust(offset, b"\0") + content
+
+
+@dataclasses.dataclass(frozen=True)
+class Translated:
+    """The bytes of a flat program by qemu. Status 0 says that its result is right."""
+
+    program: typing.Any
+    by: str
+
+    def command(self, place):
+        folder, content = place.new_folder(), self.program.flat(place)
+        file = folder / "program"
+        if self.by == QEMU_USER:
+            file.write_bytes(linux_program(content))
+            file.chmod(0o755)
+            return Command([found(self.by), "program"], folder)
+        file.write_bytes(Program("boot").flat(place) + content)
+        return Command([found(self.by), *COMPUTER, "-bios", "program"], folder)
+
+
+@dataclasses.dataclass(frozen=True)
+class Native:
+    """A C program that the host's compiler compiles. Status 0 says that its result is right."""
+
+    text: pathlib.Path
+    flags: tuple = ()
+
+    def command(self, place):
+        folder = place.new_folder()
+        subprocess.run([NATIVE, "-O2", *self.flags, self.text, "-o", folder / "program"], check=True)
+        return Command([folder / "program"], folder)
+
+
 def image_of(files, size=2000, inodes=200):
     """Makes an image of programs by their names, with `xv6 mkfs`; what `xv6 check` says of it isn't known."""
 
@@ -133,7 +202,7 @@ class Booted:
     image: typing.Callable
     script: str = TO_THE_END
     frames: int = 256
-    stdout: bytes = b""
+    stdout: "bytes | re.Pattern" = b""
     end: str = ENDED
     saves: bool = False
     by: tuple = ("run",)
@@ -180,6 +249,25 @@ class Check:
         content, told = self.image()
         (folder / "image").write_bytes(content)
         return Command([place.xv6, "check", "image"], folder, told)
+
+
+@dataclasses.dataclass(frozen=True)
+class OnImage:
+    """A command of `xv6` on a file `image`, beside files of the host, each with its bytes; what it prints, and where it writes the
+    image, how what `xv6 check` says of it changes. A function makes the image, and what is said of it before."""
+
+    image: typing.Callable
+    words: tuple
+    stdout: "bytes | re.Pattern" = b""
+    hosts: typing.Mapping = dataclasses.field(default_factory=dict)
+    changed: "typing.Callable | None" = None
+
+    def command(self, place):
+        folder, (image, told) = place.new_folder(), self.image()
+        for name, content in {**self.hosts, "image": image}.items():
+            (folder / name).write_bytes(content)
+        then = Command([place.xv6, "check", "image"], folder, self.changed(told)) if self.changed else None
+        return Command([place.xv6, *self.words], folder, self.stdout, then=then)
 
 
 @dataclasses.dataclass(frozen=True)

@@ -7,7 +7,8 @@
 Counts of instructions (callgrind) are the same in each run, of the same program. Times are the least of three turns, in which
 what is compared runs one after the other; they want a quiet machine. With `--only` no file is written: what has these words in its
 heading is printed; `--commit` says of which commit PROGRAM was built, if not of this one. Times of the gate and of the build are
-those that `make measure-gate` and `make build` noted last; where none is noted the page keeps its rows. It takes Debian's valgrind, `rustc`, and half an hour.
+those that `make measure-gate` and `make build` noted last; where none is noted the page keeps its rows. It takes Debian's valgrind,
+`rustc`, and an hour. Qemu, a C compiler, `make library` and `make web` are measured where they are there.
 """
 import argparse
 import dataclasses
@@ -27,9 +28,9 @@ sys.dont_write_bytecode = True
 import images
 import instructions
 import rows
-from instructions import BESIDE, Counted, count_unit, figure
+from instructions import BESIDE, Counted, calls_of, count_unit, figure, profile_of
 from jobs import Flat, Place, Program, compile_plain
-from measure import Command, Failed, compare, run
+from measure import Command, Failed, compare, compare_row, run
 
 TOP = pathlib.Path(__file__).resolve().parent.parent
 PAGE = TOP / "docs" / "MEASURED.md"
@@ -61,11 +62,28 @@ def steps(place):
         timed.append([row.name, *(f"{it:.2f}" for it in took), *(f"{took[0] / it:.2f}" for it in took[1:])])
     first = {line[0]: float(line[1]) for line in counted}
     text = "Instructions of the host a step (callgrind, by the difference of two sizes).\n"
-    text += "Plain Rust has a cache of translations with `--tlb`; the twin, which decodes a word once, is the fastest that we know:\n\n"
+    text += "Plain Rust has a cache of translations with `--tlb`; the twin, which decodes a word once into blocks, is the fastest that we know:\n\n"
     text += table(["row", *BESIDE_WORDS], counted)
     text += f"\n\nNanoseconds a step, processor time, the least of {TURNS} turns in one run, and the program's ratio to each:\n\n"
     text += table(["row", *BESIDE_WORDS, *(f"by {name}" for name in BESIDE_WORDS[1:])], timed)
-    return text, first["tight loop"]
+    return text + beside_code(place), first["tight loop"]
+
+
+def beside_code(place):
+    """Nanoseconds a step beside code of the host: what qemu makes of the same bytes, and what a compiler makes of the same C."""
+    names, timed = [name for name in rows.PEERS if rows.is_there(name)], []
+    if not names:
+        return ""
+    for row in [*rows.hart_rows(), *rows.c_rows()]:
+        row = dataclasses.replace(row, beside=tuple(beside for beside in row.beside if beside.start))
+        if row.beside:
+            took = [it.seconds / row.count * 1e9 for it in compare_row(row, place, TURNS)]
+            timed.append([row.name, *(f"{it:.2f}" for it in took), *(f"{took[0] / it:.1f}" for it in took[1:])])
+    left_out = f" Not installed and left out: {', '.join(rows.missing())}." if rows.missing() else ""
+    text = "\n\nThe same beside code of the host: qemu's of the same bytes, as a process of Linux and on a bare computer without pages, and\n"
+    text += "the compiler's of the same C. The time of a program that ends at once is taken off each of them, and\n"
+    text += f"what is less than a millisecond then counts as one.{left_out}\n\n"
+    return text + table(["row", "the program", *names, *(f"by {name}" for name in names)], timed)
 
 
 # ---- who looks on
@@ -80,7 +98,15 @@ def looking_on(place):
     lines = [[f"`{' '.join(job.by)}`", f"{seconds:.3f}", f"{seconds / took[0]:.2f}"] for job, seconds in zip(jobs, took)]
     text = "A run of 10,000,000 steps with 1000 calls: seconds of processor time, the least of "
     text += f"{TURNS} turns, and the ratio to the first:\n\n"
-    return text + table(["by", "seconds", "ratio"], lines)
+    return text + table(["by", "seconds", "ratio"], lines) + committing(place)
+
+
+def committing(place):
+    """What a log of commits takes."""
+    [row] = rows.commit_rows()
+    logged, alone = compare_row(row, place, TURNS)
+    nanoseconds = (logged.seconds - alone.seconds) / row.count * 1e9
+    return f"\n\n`trace --commits` takes {nanoseconds:.0f} ns more a step than `run`, with the host's time for the file."
 
 
 # ---- a debugger
@@ -123,7 +149,20 @@ def units(place):
         print(f"  {row.name}: {counted[-1][1]}", file=sys.stderr, flush=True)
     text = "Instructions of the host a unit (callgrind), also without memset, memcpy, memcmp, of which callgrind counts each byte.\n"
     text += "Calls have the steps of a loop around them in them:\n\n"
-    return text + table(["row, unit", "instructions", "without"], counted)
+    return text + table(["row, unit", "instructions", "without"], counted) + copied_from(place)
+
+
+def copied_from(place):
+    """What a machine takes that becomes a copy of another one, as `explore` does."""
+    said = []
+    for frames, blocks in [(64, 100), (256, 2000)]:
+        calls, spent = calls_of("Machine::copy_from", profile_of(rows.exploring(4, frames, blocks), place))
+        if calls:
+            size = 4096 * frames + 1024 * blocks
+            said.append(f"{spent // calls:,} at {frames} frames and {blocks} blocks, which have {size:,} bytes")
+    if not said:
+        return ""
+    return f"\n\n`Machine::copy_from`, by which `explore` goes back: instructions a call {'; '.join(said)}."
 
 
 # ---- tools
@@ -145,14 +184,16 @@ def tools(place):
         jobs = [
             Command([place.xv6, "mkfs", *numbers, "manifest", "made"], folder),
             Command([place.xv6, "check", "image"], folder, said),
+            *(make(blocks).command(place) for make in (rows.list_small, rows.get_small, rows.put_small)),
             Command([place.xv6, "run", "image", "script"], folder, stderr="halt 1 InitEnded 0"),
             Command([place.xv6, "run", "--save", "saved", "image", "script"], folder, stderr="halt 1 InitEnded 0"),
         ]
         took = [f"{it.seconds:.2f} s, {it.peak // 1024} MiB" for it in compare(jobs, TURNS)]
         lines.append([f"{blocks} ({blocks // 1024} MB)", *took])
     text = "Processor time, the program's and the host's for it, the least of three, and the peak of memory.\n"
-    text += "`mkfs` makes an image that two files fill mostly; the others take a full one:\n\n"
-    return text + table(["blocks", "`mkfs`", "`check`", "`run` of 100 steps", "with `--save`"], lines)
+    text += "`mkfs` makes an image that two files fill mostly; the others take a full one, of which `ls` lists the root, `get` reads\n"
+    text += "180 bytes and `put` writes 100:\n\n"
+    return text + table(["blocks", "`mkfs`", "`check`", "`ls`", "`get`", "`put`", "`run` of 100 steps", "with `--save`"], lines)
 
 
 # What was measured on 2026-11-26, before the library made images and ran to events, and before the page had views, times and exercises:
@@ -163,6 +204,8 @@ BEFORE = {
     "`xv6 run --tlb`": ["1827 kB", "5.3 ms", "107"],
     "`xv6.html`, in Chromium": ["165 kB", "42 ms", "34"],
 }
+UNTIL_LINE = r"^run_until: [\d.]+ ns a step, (\d+) million steps a second$"
+COPY_LINE = r"^copy of (\d+) frames and (\d+) blocks, ([\d.]+) MB: (\d+) us; memcpy (\d+) us into new memory, (\d+) us into memory that is there$"
 LIBRARY_LINE = r"^%s: boot ([\d.]+) ms, [\d.]+ ns a step, (\d+) million steps a second$"
 PAGE_LINES = [
     r"first prompt (\d+) ms",
@@ -173,11 +216,17 @@ PAGE_LINES = [
 
 
 def told(words, *patterns):
-    """The numbers that a script prints, by patterns."""
+    """The numbers that a script prints, by patterns: of each those of its first line."""
+    said = all_told(words)
+    return [re.search(pattern, said, re.M).groups() for pattern in patterns]
+
+
+def all_told(words):
+    """What a script prints."""
     said = subprocess.run([sys.executable, *map(str, words)], cwd=TOP, capture_output=True, text=True)
     if said.returncode:
         raise Failed(f"{words[0]}: {said.stderr}")
-    return [re.search(pattern, said.stdout, re.M).groups() for pattern in patterns]
+    return said.stdout
 
 
 def size_of(path):
@@ -219,16 +268,25 @@ def stacks(folder):
     return text + table(["function", "stack", "old stack"], rows_of)
 
 
+def copies(said):
+    """What `run_until` and copies take, of what the script for the library printed."""
+    lines = [[f"{frames} frames, {blocks} blocks", size, *times] for frames, blocks, size, *times in re.findall(COPY_LINE, said, re.M)]
+    text = f"\n\nPython's `run_until`: {re.search(UNTIL_LINE, said, re.M)[1]} million steps a second.\n\n"
+    text += "A copy of a machine that is closed at once (`bench/copies.c`), and the host's memcpy of as many bytes, microseconds:\n\n"
+    return text + table(["machine", "MB", "copy", "memcpy into new memory", "into memory that is there"], lines)
+
+
 def library(place):
     """The library and the page, where they are made: sizes, boots and steps, and the old ones."""
     folder, page = TOP / "out" / "library", TOP / "out" / "web" / "xv6.html"
     now, more, stack = {}, "", ""
     if (folder / "libxv6.so").exists():
         files = {"C": folder / "libxv6.a", "Python": folder / "libxv6.so", "xv6 run --tlb": place.xv6}
-        patterns = [LIBRARY_LINE % re.escape(name) for name in files]
-        for key, file, (boot, rate) in zip(BEFORE, files.values(), told(["bench/library.py", folder, place.xv6], *patterns)):
+        said = all_told(["bench/library.py", folder, place.xv6])
+        for key, (name, file) in zip(BEFORE, files.items()):
+            boot, rate = re.search(LIBRARY_LINE % re.escape(name), said, re.M).groups()
             now[key] = [size_of(file), f"{boot} ms", rate]
-        stack = stacks(folder)
+        stack = stacks(folder) + copies(said)
     if page.exists() and any(map(shutil.which, ("chromium", "chromium-browser", "google-chrome"))):
         now[list(BEFORE)[-1]], more = page_row(page, place)
     head = ["", "size", "boot of 2 MB", "million steps a second", "old size", "old boot", "old steps"]

@@ -2,24 +2,28 @@
 
 import dataclasses
 import functools
+import re
 import typing
 
 import images
 import texts
-from jobs import ENDED, HERE, PLAIN, RUNNING, TWIN, Assembled, Booted, Check, Compiled, Flat, Mkfs, Program, image_of
+from jobs import ENDED, HERE, NATIVE, PLAIN, QEMU_SYSTEM, QEMU_USER, RUNNING, TWIN, Assembled, Booted, Check, Compiled, Flat, Mkfs
+from jobs import Native, OnImage, Program, Translated, found, image_of
 
 USER = HERE.parent / "user"
+PAGE = 4096
 
 
 @dataclasses.dataclass(frozen=True)
 class Beside:
-    """A job whose time is printed beside that of a row: what it is, at most how often the row's may have its time, and how many
-    units it does, where the cost of one is to be compared."""
+    """A job whose time is printed beside that of a row: what it is, at most how often the row's may have its time, how many units
+    it does, where the cost of one is to be compared, and a job that only starts, whose time is taken off."""
 
     what: str
     job: typing.Any
     most: "float | None" = None
     count: "int | None" = None
+    start: typing.Any = None
 
 
 @dataclasses.dataclass(frozen=True)
@@ -49,21 +53,52 @@ def twin(job):
     return Beside("the twin", dataclasses.replace(job, on=TWIN, flags=()))
 
 
+# What each name of what is beside a program needs, and how it is installed.
+PEERS = {"qemu-user": QEMU_USER, "qemu-system": QEMU_SYSTEM, "native": NATIVE}
+
+
+def is_there(name):
+    """Whether one of them is installed."""
+    return found(PEERS[name]) is not None
+
+
+def missing():
+    """Which of them aren't installed, each with the command that isn't found."""
+    return [f"{name} ({tool})" for name, tool in PEERS.items() if not is_there(name)]
+
+
+def peers(program, text, *flags):
+    """Qemu, which translates the bytes of a program, and the host's code of a text: those that are installed. What each takes for
+    its start is taken off."""
+    empty = {
+        **{name: Translated(Program("exit"), PEERS[name]) for name in ("qemu-user", "qemu-system")},
+        "native": Native(HERE / "native" / "nothing.c"),
+    }
+    jobs = {
+        **{name: Translated(program, PEERS[name]) for name in ("qemu-user", "qemu-system")},
+        "native": Native(text, flags),
+    }
+    return [Beside(name, jobs[name], start=empty[name]) for name in PEERS if is_there(name)]
+
+
 # ---- the hart
 
-# How many instructions the two loops take.
-STEPS = 6 * 0x1000000 + 4
-WORD_STEPS = 0x2000 * (8 * 2048 + 4) + 7
+# How often the two loops are done, and how many instructions that takes.
+ROUNDS, WORD_ROUNDS = 0x1000000, 0x2000
+STEPS = 6 * ROUNDS + 4
+WORD_STEPS = WORD_ROUNDS * (8 * 2048 + 3) + 10
 
 
 def hart_rows():
-    for name, program, steps in [
-        ("tight loop", Program("tight", ROUNDS=0x1000000), STEPS),
-        ("memory loop", Program("memory", ROUNDS=0x2000), WORD_STEPS),
+    for name, loop, rounds, steps in [
+        ("tight loop", "tight", ROUNDS, STEPS),
+        ("memory loop", "memory", WORD_ROUNDS, WORD_STEPS),
     ]:
+        program = Program(loop, ROUNDS=rounds)
         without = Flat(program)
         cached = Flat(program, flags=("--tlb",))
-        yield beside_plain(name, without, twin(without), count=steps, unit="step")
+        others = peers(program, HERE / "native" / f"{loop}.c", f"-DROUNDS={rounds}")
+        yield beside_plain(name, without, twin(without), *others, count=steps, unit="step")
         others = [twin(cached), Beside("without --tlb", without, 1.1)]
         yield beside_plain(f"{name} with --tlb", cached, *others, count=steps, unit="step")
         booted = Booted(image_of({"init": program}))
@@ -71,14 +106,48 @@ def hart_rows():
 
 
 # How many steps the C programs take, with the turn in which the process gets the hart.
-C_STEPS = {"mandelbrot": 58_677_472, "queens": 39_917_135, "floats": 50_683_908}
+C_STEPS = {
+    "mandelbrot": 58_677_472,
+    "queens": 39_917_135,
+    "floats": 50_683_908,
+    "sort": 49_453_915,
+    "sha": 85_146_201,
+    "memcp": 47_516_816,
+    "vm": 49_600_010,
+    "bigcode": 48_396_018,
+    "chase": 51_532_824,
+}
+
+# The flags of their texts that aren't those of the others.
+C_FLAGS = {"mandelbrot": ("-O0",)}
 
 
 def c_rows():
     for name, steps in C_STEPS.items():
         job = Flat(Compiled(name), f"step {steps}\n", steps=steps)
         kept = Beside("plain Rust with --tlb", dataclasses.replace(job, on=PLAIN, flags=("--tlb",)))
-        yield beside_plain(f"{name} in C", job, kept, twin(job), count=steps, unit="step")
+        others = peers(Compiled(name), HERE / "c" / f"{name}.c", *C_FLAGS.get(name, ()))
+        yield beside_plain(f"{name} in C", job, kept, twin(job), *others, count=steps, unit="step")
+
+
+# How far apart two frames are that a small table of frames doesn't keep apart.
+APART = 64
+
+
+def clash(pages, rounds):
+    """Two functions that lie n pages apart, called in turn."""
+    return Flat(Program("clash", ROUNDS=rounds, GAP=(pages - 1) * PAGE))
+
+
+# The steps of a round of `programs/clash.s`.
+CLASH_STEPS = 2 * 18 + 2
+
+
+def clash_rows():
+    rounds = 1_000_000
+    other = Beside("one page apart", clash(1, rounds), 1.1)
+    name = f"functions in two pages whose frames differ by {APART}"
+    yield beside_plain(name, clash(APART, rounds), twin(clash(APART, rounds)), other, count=CLASH_STEPS * rounds, unit="step")
 
 
 # ---- multiplication
@@ -138,9 +207,31 @@ def looking_rows():
         yield Row(name, looked, 10_000_000, "step", (Beside("by `run`", alone, 1.3),))
 
 
-# ---- memory and processes
+def commit_rows():
+    """A run of 1,000,000 steps with a line for each."""
+    alone = Booted(image_of({"init": Program("seldom", CALLS=100, ROUNDS=4997)}))
+    logged = dataclasses.replace(alone, by=("trace", "--text", "text", "--commits", "log"))
+    yield Row("1000000 steps by `trace --commits`", logged, 1_000_000, "step", (Beside("by `run`", alone),))
 
-PAGE = 4096
+
+# How many states there are where two children make n calls each, by n.
+STATES = {4: 215, 8: 559, 16: 1727}
+
+
+def exploring(calls, frames=64, blocks=100):
+    """A search of all orders of the calls of two children, which goes back to an earlier state again and again."""
+    program = Program("orders", CHILDREN=2, CALLS=calls)
+    said = rf"1 outcome under all schedules: {STATES[calls]} states, 1 end, .*\n.*\n"
+    image = image_of({"init": program}, size=blocks, inodes=32)
+    return Booted(image, frames=frames, by=("explore",), stdout=re.compile(said.encode()), end="")
+
+
+def explore_rows():
+    half = Beside("of 8 calls each", exploring(8), count=STATES[8])
+    yield Row("explore, 2 children with 16 calls each", exploring(16), STATES[16], "state", (half,))
+
+
+# ---- memory and processes
 
 
 def sbrk(before, pages, rounds):
@@ -297,6 +388,57 @@ def made_full(size, inodes):
     return Mkfs(manifest, told, {"one": b"1" * 1024, "two": b"2" * 2048}, size, inodes)
 
 
+SMALL = b"hello\n" * 30
+
+
+def roomy(size):
+    """An image with one small file, `/init`, and large ones; of its blocks a few are free."""
+    return images.many_blocks(size, SMALL, 64)
+
+
+def put_small(size):
+    """A file of 100 bytes more on such an image. What `xv6 check` says then is of one node and one block more."""
+
+    def changed(told):
+        return re.sub(rb"\d+", lambda number: b"%d" % (int(number[0]) + 1), told)
+
+    words = ("put", "image", "/more", "more")
+    return OnImage(functools.partial(roomy, size), words, hosts={"more": b"y" * 100}, changed=changed)
+
+
+def get_small(size):
+    return OnImage(functools.partial(roomy, size), ("get", "image", "/init"), SMALL)
+
+
+def list_small(size):
+    lines = re.compile(rb"(?:.+\n)*init +2 +2 +180\n(?:.+\n)*")
+    return OnImage(functools.partial(roomy, size), ("ls", "image", "/"), lines)
+
+
+def two_files(size):
+    """`mkfs` of two files that nearly fill an image."""
+    length = 1024 * size * 12 // 25
+    blocks = -(-length // 1024)
+    told = f"ok 3 inodes {1 + 2 * (blocks + images.index_blocks(blocks))} blocks\n".encode()
+    return Mkfs("file /a half\nfile /b half\n", told, {"half": b"x" * length}, size, 64)
+
+
+LARGEST = 131072
+
+
+def small_file_rows():
+    """One small file of an image of 128 MB, which each command checks first."""
+    check = Check(functools.partial(roomy, LARGEST))
+    for name, job, most in [
+        ("ls", list_small(LARGEST), 1.1),
+        ("get of 180 bytes", get_small(LARGEST), 1.1),
+        ("put of 100 bytes", put_small(LARGEST), 1.8),
+    ]:
+        yield Row(f"{name}, on {LARGEST} blocks", job, 1, "run", (Beside("check of them", check, most),))
+    smaller = Beside(f"of {LARGEST // 8}", two_files(LARGEST // 8), count=LARGEST // 8)
+    yield Row(f"mkfs of {LARGEST} blocks and two files", two_files(LARGEST), LARGEST, "block", (smaller,))
+
+
 def making_rows():
     whole, half = [Booted(full_with_init(size), saves=True) for size in [16384, 8192]]
     yield Row("boot and save of 16384 blocks", whole, 16384, "block", (Beside("of 8192", half, 2.2),))
@@ -332,6 +474,8 @@ def text_rows():
 
 def all_rows():
     """Every row, in the order in which they are run."""
-    machines = [hart_rows, c_rows, multiply_rows, looking_rows, page_rows, process_rows, turn_rows, byte_rows]
-    for group in [*machines, rewriting_rows, large_rows, name_rows, making_rows, checking_rows, text_rows]:
+    machines = [hart_rows, c_rows, clash_rows, multiply_rows, looking_rows, commit_rows, explore_rows]
+    machines += [page_rows, process_rows, turn_rows, byte_rows]
+    files = [rewriting_rows, large_rows, name_rows, small_file_rows, making_rows, checking_rows]
+    for group in [*machines, *files, text_rows]:
         yield from group()

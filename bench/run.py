@@ -5,7 +5,8 @@
     bench/run.py --list                                 what each row measures, its unit, and what is beside it
 
 There are programs on the machine, which are beside a plain Rust interpreter of the same design where it has what they need,
-and else beside the same at another size; and the commands that make and check images and assemble texts. For example
+and else beside the same at another size; and the commands that make, check, read and write images, assemble texts, trace and
+explore. For example
 
     tight loop with --tlb: 1.294 s, 12.9 ns for each step, peak 3052 KiB
         plain Rust: 1.142 s, ratio 1.13
@@ -19,13 +20,19 @@ work on the machine slows both, and the least times are taken.
 What ran has to print and return what the table says: the programs look at each result that they get, and end with status 1
 where it is wrong. A row that fails is marked, and the status is 1 then. A ratio that is too high changes no status.
 
-The twin is another plain interpreter, the fastest that we know: it decodes a word once, and has nothing but the call exit.
+The twin is another plain interpreter, the fastest that we know: it decodes words once, into blocks, and has nothing but the call exit.
+Programs that only compute are also beside qemu, which translates the same bytes to code of the host (as a process of Linux, and on
+a bare computer without pages), and beside the host's own code of the same C text, where these are installed: Debian's packages
+qemu-user, qemu-system-misc and gcc. What each takes for its start is taken off, and less than a millisecond then counts as one.
+What isn't installed is left out, and named.
+
 `instructions.py` counts the instructions of the processor for a unit of a row, where valgrind is there;
 `trials/accesses.py` counts the accesses of the disk.
 
 `rustc` has to be in the PATH. `rows.py` has the table, `jobs.py` says how the files of a row are made, `measure.py`
 measures, `programs` has the assembly texts, `c` the C programs with their bytes, which `make -C bench/c` compiles anew
-and compares, `baseline` the plain interpreter and `twin.rs` its twin.
+and compares, `native` the two loops in assembly as C, `baseline` the plain interpreter and `twin.rs` its twin.
+`library.py` and `web/measure.py` measure the library, Python and the page, and `report.py` all of it for docs/MEASURED.md.
 """
 
 import argparse
@@ -38,8 +45,8 @@ import tempfile
 sys.dont_write_bytecode = True
 
 from jobs import Place, compile_plain
-from measure import Failed, compare
-from rows import all_rows
+from measure import Failed, compare_row
+from rows import all_rows, missing
 
 TURNS = 3
 
@@ -66,8 +73,7 @@ def show(row, took, others):
 
 def measure_row(row, place, turns):
     """Runs a row and prints it."""
-    commands = [job.command(place) for job in [row.job, *(beside.job for beside in row.beside)]]
-    took, *others = compare(commands, turns)
+    took, *others = compare_row(row, place, turns)
     show(row, took, others)
 
 
@@ -84,6 +90,8 @@ def is_done(row, place, turns):
 
 def measure_all(rows, program, turns):
     """Measures the rows; whether all of them did what they have to do."""
+    for tool in missing():
+        print(f"left out, since it isn't installed: {tool}", flush=True)
     with tempfile.TemporaryDirectory() as folder:
         place = compile_plain(Place(pathlib.Path(folder), program))
         return all([is_done(row, place, turns) for row in rows])

@@ -2,14 +2,17 @@
 //! against: it shows what a loop of this shape can do. Nothing else depends on it.
 //!
 //! As in the plain interpreter in `baseline`, memory is frames, in which Sv39 tables lie, and with its
-//! `--tlb` 64 pages are remembered for each kind of access. Beyond that
+//! `--tlb` pages are remembered for each kind of access. Beyond that
 //!
-//! - a word is decoded once, into the table of its frame's operations. A frame with such a table isn't
-//!   remembered for stores, so each store there goes a slow way, which forgets what it overwrites;
+//! - words are decoded once, into blocks: operations of one page that follow each other, through branches
+//!   that aren't taken, up to a jump, a call or the page's end. A frame with decoded words isn't remembered
+//!   for stores, so each store there goes a slow way; one to such a word forgets all blocks;
+//! - a block takes its count of steps where it begins, and what leaves it early gives back the rest;
+//! - a branch leads to its target's block once it was taken. So nothing but a new block needs a
+//!   translation of a pc: the tables of a process stay as they are;
 //! - what a step touches comes as an argument of its own, so the compiler knows that they are apart;
-//! - one number ends a straight run of operations, at the page's end and where the steps are done;
-//! - a branch within its page leads to an index of its table; x0 as a target is decoded to a register
-//!   that nobody reads;
+//! - an operation has eight bytes; what only a branch or a fault looks at lies elsewhere;
+//! - x0 as a target is decoded to a register that nobody reads;
 //! - one comparison shows that an address is aligned and that its page is remembered.
 //!
 //! It knows RV64IM and the call exit; every other call returns -1. A script's lines `step N` say how
@@ -97,7 +100,7 @@ fn load_program(count: usize, program: &[u8]) -> Option<(Vec<Frame>, u64)> {
 
 // ---- what is remembered of translations
 
-const KEPT: usize = 64;
+const KEPT: usize = 256;
 
 /// The page that begins at an address has a frame.
 #[derive(Clone, Copy)]
@@ -110,7 +113,6 @@ struct Kept {
 const NOTHING: Kept = Kept { page: u64::MAX, frame: 0 };
 
 struct Translations {
-    fetches: [Kept; KEPT],
     loads: [Kept; KEPT],
     stores: [Kept; KEPT],
 }
@@ -132,31 +134,20 @@ fn find(kept: &[Kept; KEPT], address: u64, size: usize) -> Option<usize> {
     (page == begins).then_some(frame as usize)
 }
 
-/// The frame of an instruction's address.
-#[inline(never)]
-fn fetch(frames: &[Frame], translations: &mut Translations, pc: u64) -> Option<usize> {
-    if let Some(frame) = find(&translations.fetches, pc, 4) {
-        return Some(frame);
-    }
-    let frame = walk(frames, pc, Access::Fetch)?;
-    keep(&mut translations.fetches, pc, frame);
-    Some(frame)
-}
-
 // ---- operations
 
 #[derive(Clone, Copy, PartialEq)]
 #[rustfmt::skip]
 enum Kind {
-    Unknown, Illegal, Lui, Auipc, Jal, JalWithin, Jalr, Beq, Bne, Blt, Bge, Bltu, Bgeu, FarBranch,
+    Begin, Next, Illegal, Lui, Auipc, Jal, Jalr, Beq, Bne, Blt, Bge, Bltu, Bgeu,
     Lb, Lh, Lw, Ld, Lbu, Lhu, Lwu, Sb, Sh, Sw, Sd,
     Addi, Slti, Sltiu, Xori, Ori, Andi, Slli, Srli, Srai, Addiw, Slliw, Srliw, Sraiw,
     Add, Sub, Sll, Slt, Sltu, Xor, Srl, Sra, Or, And, Addw, Subw, Sllw, Srlw, Sraw,
     Mul, Mulh, Mulhsu, Mulhu, Div, Divu, Rem, Remu, Mulw, Divw, Divuw, Remw, Remuw, Fence, Ecall,
 }
 
-/// A decoded word. The value is the immediate operand, or of a branch within its page the index that
-/// it leads to.
+/// A decoded word. The value is the immediate operand; of `lui` and `auipc` what the target gets; where a
+/// block begins how many steps it has.
 #[derive(Clone, Copy)]
 struct Operation {
     kind: Kind,
@@ -165,9 +156,6 @@ struct Operation {
     right: u8,
     value: i32,
 }
-
-const UNKNOWN: Operation =
-    Operation { kind: Kind::Unknown, target: 0, left: 0, right: 0, value: 0 };
 
 /// So many registers that a byte names one of them without a test.
 type Registers = [u64; 256];
@@ -215,54 +203,167 @@ fn value_of(word: u32) -> i32 {
     }
 }
 
-/// What a word at an index of its page does.
-fn decode(word: u32, place: usize) -> Operation {
+/// What a word at a pc does.
+fn decode(word: u32, pc: u64) -> Operation {
     let register = |lowest: u32| (word >> lowest & 31) as u8;
     let (kind, value) = (kind_of(word), value_of(word));
     let target = if register(7) == 0 { NOBODY } else { register(7) };
-    let operation = Operation { kind, target, left: register(15), right: register(20), value };
-    let to = 4 * place as i32 + value;
-    let is_within = value % 4 == 0 && (0..FRAME as i32).contains(&to);
-    match word & 0x7f {
-        0x6f if value % 4 != 0 => Operation { kind: Kind::Illegal, ..operation },
-        0x6f if is_within => Operation { kind: Kind::JalWithin, value: to / 4, ..operation },
-        0x63 if kind == Kind::Illegal => operation,
-        0x63 if is_within => Operation { value: to / 4, ..operation },
-        0x63 => Operation { kind: Kind::FarBranch, target: (word >> 12 & 7) as u8, ..operation },
-        _ => operation,
+    let (left, right) = (register(15), register(20));
+    match kind {
+        Kind::Auipc => Operation { kind: Kind::Lui, target, left, right, value: pc as i32 + value },
+        Kind::Jal if value % 4 != 0 => {
+            Operation { kind: Kind::Illegal, target, left, right, value }
+        }
+        _ => Operation { kind, target, left, right, value },
     }
 }
 
-/// The operations of a frame: each is that of the word at its index, or unknown.
-struct Table {
-    frame: usize,
-    operations: [Operation; FRAME / 4],
+fn is_branch(kind: Kind) -> bool {
+    use Kind::*;
+    matches!(kind, Beq | Bne | Blt | Bge | Bltu | Bgeu)
 }
 
-const TABLES: usize = 64;
+// ---- blocks
 
-/// No frame has this number.
-const NO_FRAME: usize = usize::MAX;
+/// An index among the operations of all blocks.
+type Slot = u16;
+const SLOTS: usize = 1 << 16;
 
-/// The table of a frame, which is empty where the frame has none yet.
-#[inline(always)]
-fn take_table(
-    tables: &mut [Table; TABLES],
-    translations: &mut Translations,
-    frame: usize,
-) -> usize {
-    let at = frame % TABLES;
-    if tables[at].frame != frame {
-        clear_table(&mut tables[at], translations, frame);
+/// No block begins here.
+const NOWHERE: Slot = 0;
+
+/// How many steps a block has at most.
+const LONGEST: usize = 120;
+
+/// What an operation has beside its eight bytes.
+#[derive(Clone, Copy)]
+struct Beside {
+    pc: u64,
+    /// Where the block begins that a taken branch leads to, if that is known.
+    to: Slot,
+    /// How many steps of the block follow this operation.
+    rest: u16,
+}
+
+const END: Operation =
+    Operation { kind: Kind::Begin, target: NOBODY, left: 0, right: 0, value: i32::MAX };
+const NONE: Beside = Beside { pc: u64::MAX, to: NOWHERE, rest: 0 };
+
+/// How many targets of indirect jumps are remembered.
+const JUMPS: usize = 1024;
+
+/// The decoded words. Blocks lie one after the other; each has a first operation that is no step.
+struct Code {
+    operations: Box<[Operation; SLOTS]>,
+    beside: Box<[Beside; SLOTS]>,
+    /// The first free index.
+    end: usize,
+    /// Of each frame where the blocks of its words begin, and which of them are decoded.
+    begins: Vec<[Slot; FRAME / 4]>,
+    is_decoded: Vec<[bool; FRAME / 4]>,
+    has_decoded: Vec<bool>,
+    jumps: Box<[Slot; JUMPS]>,
+}
+
+impl Code {
+    fn new(count: usize) -> Option<Code> {
+        Some(Code {
+            operations: vec![END; SLOTS].try_into().ok()?,
+            beside: vec![NONE; SLOTS].try_into().ok()?,
+            end: 1,
+            begins: vec![[NOWHERE; FRAME / 4]; count],
+            is_decoded: vec![[false; FRAME / 4]; count],
+            has_decoded: vec![false; count],
+            jumps: vec![NOWHERE; JUMPS].try_into().ok()?,
+        })
     }
-    at
+
+    fn forget(&mut self) {
+        for frame in (0..self.has_decoded.len()).filter(|frame| self.has_decoded[*frame]) {
+            self.begins[frame].fill(NOWHERE);
+            self.is_decoded[frame].fill(false);
+        }
+        self.has_decoded.fill(false);
+        self.jumps.fill(NOWHERE);
+        self.end = 1;
+    }
+
+    fn push(&mut self, operation: Operation, beside: Beside) {
+        self.operations[self.end] = operation;
+        self.beside[self.end] = beside;
+        self.end += 1;
+    }
+
+    /// The block at a pc of at most that many steps, which is made if need be; none where nothing may be executed.
+    fn block(
+        &mut self,
+        frames: &[Frame],
+        translations: &mut Translations,
+        pc: u64,
+        most: usize,
+    ) -> Option<Slot> {
+        let frame = walk(frames, pc, Access::Fetch)?;
+        let word = pc as usize % FRAME / 4;
+        let begin = self.begins[frame][word];
+        if begin != NOWHERE && self.operations[begin as usize].value as usize <= most {
+            return Some(begin);
+        }
+        if self.end + LONGEST + 2 > SLOTS {
+            self.forget();
+        }
+        if !self.has_decoded[frame] {
+            self.has_decoded[frame] = true;
+            forget_stores(translations, frame);
+        }
+        let begin = self.end as Slot;
+        if most >= LONGEST {
+            self.begins[frame][word] = begin;
+        }
+        self.add_block(&frames[frame], frame, pc, most.min(LONGEST));
+        Some(begin)
+    }
+
+    fn add_block(&mut self, bytes: &Frame, frame: usize, pc: u64, most: usize) {
+        let begin = self.end;
+        self.push(END, Beside { pc, ..NONE });
+        let words = &bytes.as_chunks().0[pc as usize % FRAME / 4..];
+        let mut next = pc;
+        let mut is_ended = false;
+        for word in words.iter().take(most) {
+            let operation = decode(u32::from_le_bytes(*word), next);
+            self.is_decoded[frame][next as usize % FRAME / 4] = true;
+            self.push(operation, Beside { pc: next, ..NONE });
+            next += 4;
+            is_ended =
+                matches!(operation.kind, Kind::Jal | Kind::Jalr | Kind::Ecall | Kind::Illegal);
+            if is_ended {
+                break;
+            }
+        }
+        let steps = self.end - begin - 1;
+        self.operations[begin].value = steps as i32;
+        for (at, beside) in self.beside[begin + 1..self.end].iter_mut().enumerate() {
+            beside.rest = (steps - at - 1) as u16;
+        }
+        if !is_ended {
+            self.push(Operation { kind: Kind::Next, ..END }, Beside { pc: next, ..NONE });
+        }
+    }
+
+    /// Where a branch, a jump or the end of a block leads to.
+    fn target(&self, at: Slot) -> u64 {
+        let (Operation { kind, value, .. }, pc) =
+            (self.operations[at as usize], self.beside[at as usize].pc);
+        if is_branch(kind) || kind == Kind::Jal {
+            pc.wrapping_add(value as i64 as u64)
+        } else {
+            pc
+        }
+    }
 }
 
-#[cold]
-#[inline(never)]
-fn clear_table(table: &mut Table, translations: &mut Translations, frame: usize) {
-    table.frame = frame;
-    table.operations.fill(UNKNOWN);
+/// A frame isn't remembered for stores any more.
+fn forget_stores(translations: &mut Translations, frame: usize) {
     for kept in translations.stores.iter_mut().filter(|kept| kept.frame as usize == frame) {
         *kept = NOTHING;
     }
@@ -272,7 +373,7 @@ fn clear_table(table: &mut Table, translations: &mut Translations, frame: usize)
 
 /// Why the next operation isn't the one after this one.
 enum Leave {
-    Within(usize),
+    Taken,
     Jump(u64),
     Call,
     Slow,
@@ -301,22 +402,12 @@ fn store<const N: usize>(
 }
 
 #[inline(always)]
-fn branch(is_taken: bool, place: i32) -> Result<(), Leave> {
+fn branch(is_taken: bool) -> Result<(), Leave> {
     if is_taken {
-        return Err(Leave::Within(place as usize));
+        Err(Leave::Taken)
+    } else {
+        Ok(())
     }
-    Ok(())
-}
-
-#[inline(always)]
-fn jump(address: u64) -> Result<(), Leave> {
-    Err(if address % 4 == 0 { Leave::Jump(address) } else { Leave::Slow })
-}
-
-fn is_taken(funct3: u8, left: u64, right: u64) -> bool {
-    let is_less = if funct3 < 6 { (left as i64) < right as i64 } else { left < right };
-    let holds = if funct3 < 4 { left == right } else { is_less };
-    holds != (funct3 % 2 == 1)
 }
 
 fn divide(left: i64, right: i64) -> i64 {
@@ -349,93 +440,89 @@ fn act(
     translations: &Translations,
 ) -> Result<(), Leave> {
     use Kind::*;
-    let a = registers[operation.left as usize];
-    let b = registers[operation.right as usize];
-    let value = operation.value as i64 as u64;
-    let sum = a.wrapping_add(value);
+    // Each kind looks at what it needs alone.
+    let a = || registers[operation.left as usize];
+    let b = || registers[operation.right as usize];
+    let value = || operation.value as i64 as u64;
+    let sum = || a().wrapping_add(value());
     let loads = &translations.loads;
     let stores = &translations.stores;
     let result = match operation.kind {
-        Unknown | Illegal => return Err(Leave::Slow),
+        Begin | Illegal | Auipc => return Err(Leave::Slow),
+        Next => return Err(Leave::Taken),
         Ecall => return Err(Leave::Call),
         Fence => return Ok(()),
-        Beq => return branch(a == b, operation.value),
-        Bne => return branch(a != b, operation.value),
-        Blt => return branch((a as i64) < b as i64, operation.value),
-        Bge => return branch(a as i64 >= b as i64, operation.value),
-        Bltu => return branch(a < b, operation.value),
-        Bgeu => return branch(a >= b, operation.value),
-        FarBranch if is_taken(operation.target, a, b) => return jump(pc().wrapping_add(value)),
-        FarBranch => return Ok(()),
-        JalWithin => {
-            registers[operation.target as usize] = pc().wrapping_add(4);
-            return branch(true, operation.value);
-        }
+        Beq => return branch(a() == b()),
+        Bne => return branch(a() != b()),
+        Blt => return branch((a() as i64) < b() as i64),
+        Bge => return branch(a() as i64 >= b() as i64),
+        Bltu => return branch(a() < b()),
+        Bgeu => return branch(a() >= b()),
         Jal => {
             registers[operation.target as usize] = pc().wrapping_add(4);
-            return Err(Leave::Jump(pc().wrapping_add(value)));
+            return Err(Leave::Taken);
         }
         Jalr => {
-            let jumped = jump(sum & !1);
-            if !matches!(jumped, Err(Leave::Slow)) {
-                registers[operation.target as usize] = pc().wrapping_add(4);
+            let to = sum() & !1;
+            if to % 4 != 0 {
+                return Err(Leave::Slow);
             }
-            return jumped;
+            registers[operation.target as usize] = pc().wrapping_add(4);
+            return Err(Leave::Jump(to));
         }
-        Sb => return store(frames, stores, sum, (b as u8).to_le_bytes()),
-        Sh => return store(frames, stores, sum, (b as u16).to_le_bytes()),
-        Sw => return store(frames, stores, sum, (b as u32).to_le_bytes()),
-        Sd => return store(frames, stores, sum, b.to_le_bytes()),
-        Lb => i8::from_le_bytes(load(frames, loads, sum)?) as u64,
-        Lh => i16::from_le_bytes(load(frames, loads, sum)?) as u64,
-        Lw => i32::from_le_bytes(load(frames, loads, sum)?) as u64,
-        Ld => u64::from_le_bytes(load(frames, loads, sum)?),
-        Lbu => u8::from_le_bytes(load(frames, loads, sum)?) as u64,
-        Lhu => u16::from_le_bytes(load(frames, loads, sum)?) as u64,
-        Lwu => u32::from_le_bytes(load(frames, loads, sum)?) as u64,
-        Lui => value,
-        Auipc => pc().wrapping_add(value),
-        Addi => sum,
-        Slti => ((a as i64) < value as i64) as u64,
-        Sltiu => (a < value) as u64,
-        Xori => a ^ value,
-        Ori => a | value,
-        Andi => a & value,
-        Slli => a << (value & 63),
-        Srli => a >> (value & 63),
-        Srai => (a as i64 >> (value & 63)) as u64,
-        Addiw => sum as i32 as u64,
-        Slliw => ((a as i32) << (value & 31)) as u64,
-        Srliw => (a as u32 >> (value & 31)) as i32 as u64,
-        Sraiw => (a as i32 >> (value & 31)) as u64,
-        Add => a.wrapping_add(b),
-        Sub => a.wrapping_sub(b),
-        Sll => a << (b & 63),
-        Slt => ((a as i64) < b as i64) as u64,
-        Sltu => (a < b) as u64,
-        Xor => a ^ b,
-        Srl => a >> (b & 63),
-        Sra => (a as i64 >> (b & 63)) as u64,
-        Or => a | b,
-        And => a & b,
-        Addw => a.wrapping_add(b) as i32 as u64,
-        Subw => a.wrapping_sub(b) as i32 as u64,
-        Sllw => ((a as i32) << (b & 31)) as u64,
-        Srlw => (a as u32 >> (b & 31)) as i32 as u64,
-        Sraw => (a as i32 >> (b & 31)) as u64,
-        Mul => a.wrapping_mul(b),
-        Mulh => high(a as i64 as i128 * b as i64 as i128),
-        Mulhsu => high(a as i64 as i128 * b as i128),
-        Mulhu => (a as u128 * b as u128 >> 64) as u64,
-        Div => divide(a as i64, b as i64) as u64,
-        Divu => a.checked_div(b).unwrap_or(u64::MAX),
-        Rem => remainder(a as i64, b as i64) as u64,
-        Remu => a.checked_rem(b).unwrap_or(a),
-        Mulw => a.wrapping_mul(b) as i32 as u64,
-        Divw => divide(a as i32 as i64, b as i32 as i64) as i32 as u64,
-        Divuw => (a as u32).checked_div(b as u32).unwrap_or(u32::MAX) as i32 as u64,
-        Remw => remainder(a as i32 as i64, b as i32 as i64) as i32 as u64,
-        Remuw => (a as u32).checked_rem(b as u32).unwrap_or(a as u32) as i32 as u64,
+        Sb => return store(frames, stores, sum(), (b() as u8).to_le_bytes()),
+        Sh => return store(frames, stores, sum(), (b() as u16).to_le_bytes()),
+        Sw => return store(frames, stores, sum(), (b() as u32).to_le_bytes()),
+        Sd => return store(frames, stores, sum(), b().to_le_bytes()),
+        Lb => i8::from_le_bytes(load(frames, loads, sum())?) as u64,
+        Lh => i16::from_le_bytes(load(frames, loads, sum())?) as u64,
+        Lw => i32::from_le_bytes(load(frames, loads, sum())?) as u64,
+        Ld => u64::from_le_bytes(load(frames, loads, sum())?),
+        Lbu => u8::from_le_bytes(load(frames, loads, sum())?) as u64,
+        Lhu => u16::from_le_bytes(load(frames, loads, sum())?) as u64,
+        Lwu => u32::from_le_bytes(load(frames, loads, sum())?) as u64,
+        Lui => value(),
+        Addi => sum(),
+        Slti => ((a() as i64) < value() as i64) as u64,
+        Sltiu => (a() < value()) as u64,
+        Xori => a() ^ value(),
+        Ori => a() | value(),
+        Andi => a() & value(),
+        Slli => a() << (value() & 63),
+        Srli => a() >> (value() & 63),
+        Srai => (a() as i64 >> (value() & 63)) as u64,
+        Addiw => sum() as i32 as u64,
+        Slliw => ((a() as i32) << (value() & 31)) as u64,
+        Srliw => (a() as u32 >> (value() & 31)) as i32 as u64,
+        Sraiw => (a() as i32 >> (value() & 31)) as u64,
+        Add => a().wrapping_add(b()),
+        Sub => a().wrapping_sub(b()),
+        Sll => a() << (b() & 63),
+        Slt => ((a() as i64) < b() as i64) as u64,
+        Sltu => (a() < b()) as u64,
+        Xor => a() ^ b(),
+        Srl => a() >> (b() & 63),
+        Sra => (a() as i64 >> (b() & 63)) as u64,
+        Or => a() | b(),
+        And => a() & b(),
+        Addw => a().wrapping_add(b()) as i32 as u64,
+        Subw => a().wrapping_sub(b()) as i32 as u64,
+        Sllw => ((a() as i32) << (b() & 31)) as u64,
+        Srlw => (a() as u32 >> (b() & 31)) as i32 as u64,
+        Sraw => (a() as i32 >> (b() & 31)) as u64,
+        Mul => a().wrapping_mul(b()),
+        Mulh => high(a() as i64 as i128 * b() as i64 as i128),
+        Mulhsu => high(a() as i64 as i128 * b() as i128),
+        Mulhu => (a() as u128 * b() as u128 >> 64) as u64,
+        Div => divide(a() as i64, b() as i64) as u64,
+        Divu => a().checked_div(b()).unwrap_or(u64::MAX),
+        Rem => remainder(a() as i64, b() as i64) as u64,
+        Remu => a().checked_rem(b()).unwrap_or(a()),
+        Mulw => a().wrapping_mul(b()) as i32 as u64,
+        Divw => divide(a() as i32 as i64, b() as i32 as i64) as i32 as u64,
+        Divuw => (a() as u32).checked_div(b() as u32).unwrap_or(u32::MAX) as i32 as u64,
+        Remw => remainder(a() as i32 as i64, b() as i32 as i64) as i32 as u64,
+        Remuw => (a() as u32).checked_rem(b() as u32).unwrap_or(a() as u32) as i32 as u64,
     };
     registers[operation.target as usize] = result;
     Ok(())
@@ -445,6 +532,7 @@ fn act(
 enum Slow {
     Again,
     Done,
+    Overwritten,
     Fault,
 }
 
@@ -463,120 +551,130 @@ fn access_of(kind: Kind) -> Option<(Access, usize)> {
     })
 }
 
-/// An operation that isn't known yet, or an access whose page isn't remembered. What can be remembered
-/// is, and then the operation is to be done again.
+/// An access whose page isn't remembered. If it can be it is, and then the operation is to be done again.
 #[cold]
 #[inline(never)]
 fn go_slowly(
-    (at, place): (usize, usize),
+    operation: Operation,
     registers: &Registers,
     frames: &mut [Frame],
     translations: &mut Translations,
-    tables: &mut [Table; TABLES],
+    is_decoded: &[[bool; FRAME / 4]],
+    has_decoded: &[bool],
 ) -> Slow {
-    let Table { frame, operations } = &mut tables[at];
-    let operation = operations[place];
-    if operation.kind == Kind::Unknown {
-        let word = u32::from_le_bytes(frames[*frame].as_chunks().0[place]);
-        operations[place] = decode(word, place);
-        return Slow::Again;
-    }
     let address = registers[operation.left as usize].wrapping_add(operation.value as i64 as u64);
-    match access_of(operation.kind) {
-        Some((_, size)) if address % size as u64 != 0 => Slow::Fault,
-        Some((Access::Store, size)) => {
-            let bytes = registers[operation.right as usize].to_le_bytes();
-            store_slowly(address, &bytes[..size], frames, translations, tables)
-        }
-        Some((access, _)) => walk(frames, address, access).map_or(Slow::Fault, |frame| {
-            keep(&mut translations.loads, address, frame);
-            Slow::Again
-        }),
-        None => Slow::Fault,
-    }
-}
-
-fn store_slowly(
-    address: u64,
-    bytes: &[u8],
-    frames: &mut [Frame],
-    translations: &mut Translations,
-    tables: &mut [Table; TABLES],
-) -> Slow {
-    let Some(frame) = walk(frames, address, Access::Store) else {
+    let Some((access, size)) = access_of(operation.kind) else {
         return Slow::Fault;
     };
-    let table = &mut tables[frame % TABLES];
-    if table.frame != frame {
+    let Some(frame) = walk(frames, address, access).filter(|_| address % size as u64 == 0) else {
+        return Slow::Fault;
+    };
+    if !matches!(access, Access::Store) {
+        keep(&mut translations.loads, address, frame);
+        return Slow::Again;
+    }
+    if !has_decoded[frame] {
         keep(&mut translations.stores, address, frame);
         return Slow::Again;
     }
     let offset = address as usize % FRAME;
-    frames[frame][offset..offset + bytes.len()].copy_from_slice(bytes);
-    table.operations[offset / 4..(offset + bytes.len()).div_ceil(4)].fill(UNKNOWN);
-    Slow::Done
+    let bytes = &registers[operation.right as usize].to_le_bytes()[..size];
+    frames[frame][offset..offset + size].copy_from_slice(bytes);
+    let words = &is_decoded[frame][offset / 4..(offset + size).div_ceil(4)];
+    if words.contains(&true) {
+        Slow::Overwritten
+    } else {
+        Slow::Done
+    }
 }
 
 // ---- many operations
 
-/// Why a run ended, after its last step.
+/// Why a run of blocks ended.
 enum Stop {
-    Count,
-    Call,
-    Fault,
+    /// A branch was taken here, whose target's block isn't known.
+    Taken(Slot),
+    /// An indirect jump came to this pc, whose block isn't known.
+    Jump(u64),
+    /// It goes on at this pc, whose block may be longer than what is left.
+    At(u64),
+    /// It goes on at this pc, and a decoded word was overwritten.
+    Overwritten(u64),
+    Call(u64),
+    Fault(u64),
 }
 
-/// At most that many steps from a pc on; how many of them are left, and the pc then.
+fn jump_of(pc: u64) -> usize {
+    pc as usize / 4 % JUMPS
+}
+
+/// At most that many steps from a block on, which isn't longer; how many of them are left.
 #[inline(never)]
+#[allow(clippy::too_many_arguments)]
 fn run(
+    operations: &[Operation; SLOTS],
+    beside: &[Beside; SLOTS],
+    jumps: &[Slot; JUMPS],
+    is_decoded: &[[bool; FRAME / 4]],
+    has_decoded: &[bool],
     registers: &mut Registers,
     frames: &mut [Frame],
     translations: &mut Translations,
-    tables: &mut [Table; TABLES],
-    mut pc: u64,
+    begin: Slot,
     mut left: usize,
-) -> (Stop, usize, u64) {
-    'page: while left > 0 {
-        let Some(frame) = fetch(frames, translations, pc) else {
-            return (Stop::Fault, left - 1, pc);
+) -> (Stop, usize) {
+    left -= operations[begin as usize].value as usize;
+    let mut from = begin as usize + 1;
+    loop {
+        let mut coming = operations[from..].iter();
+        let leave = 'block: {
+            while let Some(operation) = coming.next() {
+                let pc = || beside[SLOTS - 1 - coming.len()].pc;
+                if let Err(leave) = act(operation, pc, registers, frames, translations) {
+                    break 'block leave;
+                }
+            }
+            unreachable!("each block ends with a jump, a call or where it goes on")
         };
-        let at = take_table(tables, translations, frame);
-        let start = pc & !(FRAME as u64 - 1);
-        let mut place = pc as usize % FRAME / 4;
-        loop {
-            // What is left is counted ahead, as if all operations up to the end were done.
-            let end = (FRAME / 4).min(place + left);
-            left -= end - place;
-            (left, place) = loop {
-                if place >= end {
-                    pc = start.wrapping_add(4 * place as u64);
-                    continue 'page;
+        let at = SLOTS - 1 - coming.len();
+        let Beside { pc, to, rest } = beside[at];
+        left += rest as usize;
+        let next = match leave {
+            Leave::Taken if to == NOWHERE => return (Stop::Taken(at as Slot), left),
+            Leave::Taken => to,
+            Leave::Jump(to) => {
+                let next = jumps[jump_of(to)];
+                if beside[next as usize].pc != to {
+                    return (Stop::Jump(to), left);
                 }
-                let here = || start.wrapping_add(4 * place as u64);
-                let rest = || left + (end - place - 1);
-                match act(&tables[at].operations[place], here, registers, frames, translations) {
-                    Ok(()) => place += 1,
-                    Err(Leave::Within(to)) => break (rest(), to),
-                    Err(Leave::Jump(to)) if to & !(FRAME as u64 - 1) == start => {
-                        break (rest(), to as usize % FRAME / 4);
-                    }
-                    Err(Leave::Jump(to)) => {
-                        (left, pc) = (rest(), to);
-                        continue 'page;
-                    }
-                    Err(Leave::Call) => return (Stop::Call, rest(), here().wrapping_add(4)),
-                    Err(Leave::Slow) => {
-                        match go_slowly((at, place), registers, frames, translations, tables) {
-                            Slow::Again => {}
-                            Slow::Done => place += 1,
-                            Slow::Fault => return (Stop::Fault, rest(), here()),
-                        }
-                    }
+                next
+            }
+            Leave::Call => return (Stop::Call(pc + 4), left),
+            Leave::Slow => {
+                match go_slowly(
+                    operations[at],
+                    registers,
+                    frames,
+                    translations,
+                    is_decoded,
+                    has_decoded,
+                ) {
+                    Slow::Fault => return (Stop::Fault(pc), left),
+                    Slow::Overwritten => return (Stop::Overwritten(pc + 4), left),
+                    Slow::Done => from = at + 1,
+                    Slow::Again => from = at,
                 }
-            };
+                left -= rest as usize;
+                continue;
+            }
+        };
+        let steps = operations[next as usize].value as usize;
+        if steps > left {
+            return (Stop::At(beside[next as usize].pc), left);
         }
+        left -= steps;
+        from = next as usize + 1;
     }
-    (Stop::Count, 0, pc)
 }
 
 // ---- the process
@@ -585,7 +683,7 @@ struct Process {
     registers: Registers,
     frames: Vec<Frame>,
     translations: Translations,
-    tables: Box<[Table; TABLES]>,
+    code: Code,
     pc: u64,
 }
 
@@ -596,27 +694,81 @@ impl Process {
         let (frames, end) = load_program(count, program)?;
         let mut registers = [0; 256];
         registers[2] = end - 16;
-        let translations = Translations {
-            fetches: [NOTHING; KEPT],
-            loads: [NOTHING; KEPT],
-            stores: [NOTHING; KEPT],
-        };
-        let table = || Table { frame: NO_FRAME, operations: [UNKNOWN; FRAME / 4] };
-        let tables: Vec<Table> = std::iter::repeat_with(table).take(TABLES).collect();
-        Some(Process { registers, frames, translations, tables: tables.try_into().ok()?, pc: 0 })
+        let translations = Translations { loads: [NOTHING; KEPT], stores: [NOTHING; KEPT] };
+        Some(Process { registers, frames, translations, code: Code::new(count)?, pc: 0 })
+    }
+
+    /// Notes at a branch or a jump where the block of its target begins, if the longest fits in what is left.
+    fn link(&mut self, from: Stop, left: usize) {
+        let Process { frames, translations, code, .. } = self;
+        match from {
+            Stop::Taken(at) if left >= LONGEST => {
+                let end = code.end;
+                if let Some(begin) = code.block(frames, translations, code.target(at), left) {
+                    // Where all blocks were forgotten there is nothing to link.
+                    if code.end >= end {
+                        code.beside[at as usize].to = begin;
+                    }
+                }
+            }
+            Stop::Jump(pc) if left >= LONGEST => {
+                if let Some(begin) = code.block(frames, translations, pc, left) {
+                    code.jumps[jump_of(pc)] = begin;
+                }
+            }
+            _ => {}
+        }
     }
 
     /// At most that many steps; how many are left, and the status where it ends.
     fn go(&mut self, mut left: usize) -> (usize, Option<i32>) {
         while left > 0 {
-            let Process { registers, frames, translations, tables, pc } = self;
-            let (stop, rest, to) = run(registers, frames, translations, tables, *pc, left);
-            (left, *pc) = (rest, to);
+            let Process { registers, frames, translations, code, pc } = self;
+            let Some(begin) = code.block(frames, translations, *pc, left) else {
+                return (left - 1, Some(-1));
+            };
+            let Code { operations, beside, jumps, is_decoded, has_decoded, .. } = code;
+            let (stop, rest) = run(
+                operations,
+                beside,
+                jumps,
+                is_decoded,
+                has_decoded,
+                registers,
+                frames,
+                translations,
+                begin,
+                left,
+            );
+            left = rest;
             match stop {
-                Stop::Count => {}
-                Stop::Fault => return (left, Some(-1)),
-                Stop::Call if registers[17] == EXIT => return (left, Some(registers[10] as i32)),
-                Stop::Call => registers[10] = u64::MAX,
+                Stop::Taken(at) => {
+                    self.pc = self.code.target(at);
+                    if self.pc % 4 != 0 {
+                        return (left, Some(-1));
+                    }
+                    self.link(stop, left);
+                }
+                Stop::Jump(pc) => {
+                    self.pc = pc;
+                    self.link(stop, left);
+                }
+                Stop::At(pc) => self.pc = pc,
+                Stop::Overwritten(pc) => {
+                    self.code.forget();
+                    self.pc = pc;
+                }
+                Stop::Fault(pc) => {
+                    self.pc = pc;
+                    return (left, Some(-1));
+                }
+                Stop::Call(pc) => {
+                    self.pc = pc;
+                    if self.registers[17] == EXIT {
+                        return (left, Some(self.registers[10] as i32));
+                    }
+                    self.registers[10] = u64::MAX;
+                }
             }
         }
         (left, None)

@@ -1,8 +1,10 @@
 # memory: ROUNDS rounds over 4096 words of eight bytes, in which every second instruction loads or stores.
 
+            auipc t6, 1             # the words, which are a page on, wherever this lies
             li t0, ROUNDS
-            la t5, end
-round:      la t4, words
+            lui t5, 8               # 32768 bytes
+            add t5, t5, t6
+round:      mv t4, t6
 word:       ld t1, 0(t4)
             add t1, t1, t0
             sd t1, 0(t4)
@@ -18,5 +20,4 @@ word:       ld t1, 0(t4)
             ecall
 
             .pad 4096
-words:      .zero 32768
-end:
+            .zero 32768
