@@ -75,9 +75,13 @@ def compare(commands, turns):
     return [Took(min(one.seconds for one in took), max(one.peak for one in took)) for took in zip(*runs)]
 
 
+# By how many seconds two starts of a program may differ.
+NOISE = 0.001
+
+
 def less(took, start):
-    """What a run took without its start; never nothing, since it is divided by."""
-    return Took(max(took.seconds - start.seconds, 1e-9), took.peak)
+    """What a run took without its start: at least what two starts may differ by."""
+    return Took(max(took.seconds - start.seconds, NOISE), took.peak)
 
 
 def compare_row(row, place, turns):

@@ -72,6 +72,8 @@ def steps(place):
 def beside_code(place):
     """Nanoseconds a step beside code of the host: what qemu makes of the same bytes, and what a compiler makes of the same C."""
     names, timed = [name for name in rows.PEERS if rows.is_there(name)], []
+    if not names:
+        return ""
     for row in [*rows.hart_rows(), *rows.c_rows()]:
         row = dataclasses.replace(row, beside=tuple(beside for beside in row.beside if beside.start))
         if row.beside:
@@ -79,7 +81,8 @@ def beside_code(place):
             timed.append([row.name, *(f"{it:.2f}" for it in took), *(f"{took[0] / it:.1f}" for it in took[1:])])
     left_out = f" Not installed and left out: {', '.join(rows.missing())}." if rows.missing() else ""
     text = "\n\nThe same beside code of the host: qemu's of the same bytes, as a process of Linux and on a bare computer without pages, and\n"
-    text += f"the compiler's of the same C. The time of a program that ends at once is taken off each of them.{left_out}\n\n"
+    text += "the compiler's of the same C. The time of a program that ends at once is taken off each of them, and\n"
+    text += f"what is less than a millisecond then counts as one.{left_out}\n\n"
     return text + table(["row", "the program", *names, *(f"by {name}" for name in names)], timed)
 
 

@@ -23,7 +23,8 @@ where it is wrong. A row that fails is marked, and the status is 1 then. A ratio
 The twin is another plain interpreter, the fastest that we know: it decodes words once, into blocks, and has nothing but the call exit.
 Programs that only compute are also beside qemu, which translates the same bytes to code of the host (as a process of Linux, and on
 a bare computer without pages), and beside the host's own code of the same C text, where these are installed: Debian's packages
-qemu-user, qemu-system-misc and gcc. What each takes for its start is taken off. What isn't installed is left out, and named.
+qemu-user, qemu-system-misc and gcc. What each takes for its start is taken off, and less than a millisecond then counts as one.
+What isn't installed is left out, and named.
 
 `instructions.py` counts the instructions of the processor for a unit of a row, where valgrind is there;
 `trials/accesses.py` counts the accesses of the disk.

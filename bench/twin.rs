@@ -225,7 +225,7 @@ fn is_branch(kind: Kind) -> bool {
 
 // ---- blocks
 
-/// An index of all operations.
+/// An index among the operations of all blocks.
 type Slot = u16;
 const SLOTS: usize = 1 << 16;
 
@@ -698,8 +698,7 @@ impl Process {
         Some(Process { registers, frames, translations, code: Code::new(count)?, pc: 0 })
     }
 
-    /// Where the block begins that a branch or a jump leads to, if it may have that many steps, and what led
-    /// to it then knows it.
+    /// Notes at a branch or a jump where the block of its target begins, if the longest fits in what is left.
     fn link(&mut self, from: Stop, left: usize) {
         let Process { frames, translations, code, .. } = self;
         match from {
