@@ -59,5 +59,6 @@ pub(crate) fn write_script<'a, H: Host>(
     if name.is_some() {
         note_all(timeline, &mut scribe);
     }
-    scribe.finish()
+    let (desk, file) = scribe.into_parts();
+    file.finish(desk)
 }

@@ -1,3 +1,4 @@
 mod Ends
+mod Recorded
 mod Showing
 mod Sitting

@@ -71,7 +71,8 @@ fn go<'w, H: Host, V: Watch, W: Write + Drop>(
         keeper,
         stdout,
     } = performed;
-    let recorded = keeper.finish();
+    let (desk, file) = keeper.into_parts();
+    let recorded = file.finish(desk);
     let saved = keep(words.run.save, disk, host);
     Ok(Gone {
         finish,

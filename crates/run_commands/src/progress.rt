@@ -300,7 +300,10 @@ pub struct Cleared<'a, 'b, W, S> {
 impl<'a, 'b, W: Write, S: Screen> Cleared<'a, 'b, W, S> {
     /// The output over another one; `is_prompt` says whether bytes are written out at once.
     pub fn new(out: &'a mut W, meter: &'b Meter<S>, is_prompt: bool) -> Self
-        ensures { result.is_prompt ≡ is_prompt }
+        ensures out { result.out.now ≡ out.old }
+        ensures same_out { result.out.ghost_name ≡ out.entry.ghost_name }
+        ensures meter { result.meter ≡ meter.entry }
+        ensures prompt { result.is_prompt ≡ is_prompt }
     {
         Cleared {
             out,

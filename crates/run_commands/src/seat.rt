@@ -3,17 +3,18 @@ ghost use Rattle.std.specs.Prelude.{◌≡◌, ◌≢◌, None, false, refl, tru
 ghost use Rattle.run_commands.specs.declared.seat.Typed.TheVariants.{Key};
 
 use crate::progress::Meter;
+use crate::script_file::ScriptFile;
 use arrayvec::ArrayVec;
 use blockdev::BlockDev;
 use commandline::Live;
 use driver::{Given, MOST_KEYS, Mood, Terminal};
-use events::{Record, Row};
-use host::{Failure, Host, Screen, Why, append};
+use events::Record;
+use host::{Failure, Host, Screen, Why};
 use line_editor::{Editor, Keys};
 use machine::{Machine, ProcessState, Seen};
 use std::alloc::Global;
+use std::fmt;
 use std::io::Write;
-use std::{fmt, mem};
 use sv39::Translate;
 
 /// Control-A: the key after it is for the session, as in QEMU.
@@ -24,12 +25,6 @@ const SHOW: u8 = 0x10;
 
 /// The key that ends a typed line.
 const LINE_END: u8 = b'\n';
-
-/// The most events of a line of the record.
-const MOST_EVENTS: u32 = 1_000_000_000;
-
-/// The most bytes of the record that wait to be written.
-const MOST_WAITING: usize = 4096;
 
 /// The most processes that a machine has.
 const MOST_PROCESSES: usize = 64;
@@ -72,10 +67,7 @@ pub struct Seat<'a, 'b, H, S, E> {
     // Whether standard input is a terminal that waits only a moment.
     is_terminal: bool,
     // The file that has the record, where one has.
-    script: Option<&'a str>,
-    // The lines of the record that are not written yet, and the one to which events still come.
-    lines: String,
-    row: Row,
+    file: ScriptFile<'a>,
     // What was read and not given yet.
     typed: ArrayVec<u8, MOST_KEYS>,
     // Whether the last byte was an escape.
@@ -84,14 +76,13 @@ pub struct Seat<'a, 'b, H, S, E> {
     editor: Option<Editor>,
     // The keys of a line that is finished, as far as they were not given yet.
     finished: Keys,
-    // Why the record could not be written.
-    failure: Option<Failure<'a>>,
     // Why standard input could not be read.
     unread: Option<Failure<'a>>,
 }
 
 impl<'a, 'b, H: Host, S: Screen, E: Write> Seat<'a, 'b, H, S, E> {
-    /// A terminal over a host, whose record goes to a file which is there. Lines are edited where they are shown.
+    /// A terminal over a host, whose record goes to a file that is there and is empty. Lines are edited where they are
+    /// shown.
     pub(crate) fn new(
         alloc: Global,
         host: &'b mut H,
@@ -109,74 +100,28 @@ impl<'a, 'b, H: Host, S: Screen, E: Write> Seat<'a, 'b, H, S, E> {
             meter,
             stderr,
             is_terminal: words.terminal,
-            script: words.script,
-            lines: String::new(alloc),
-            row: Row::Steps(0),
+            file: ScriptFile::begun(alloc, words.script),
             typed: ArrayVec::new(),
             is_escaped: false,
             editor,
             finished: Keys::new(),
-            failure: None,
             unread: None,
         }
     }
 
-    // Whether events are recorded.
-    fn is_kept(&self) -> bool {
-        self.script.is_some() && self.failure.is_none()
-    }
-
-    // Ends the line of the record, and begins another; the lines that wait are written where they are many.
-    fn begin(&mut self, row: Row) {
-        let full = mem::replace(&mut self.row, row);
-        if full.put_unless_empty(&mut self.lines).is_err() {
-            self.failure = Some(Failure::NoMemory);
-        }
-        if self.lines.len() > MOST_WAITING {
-            self.write_out();
-        }
-    }
-
-    // Ends the line of the record.
-    fn end_line(&mut self) {
-        if self.is_kept() {
-            self.begin(Row::Steps(0));
-        }
-    }
-
-    // Records a key.
-    fn record_key(&mut self, key: u8) {
-        let mut keys = ArrayVec::new();
-        if let Row::Keys(typed) = &mut self.row
-            && typed.try_push(key).is_ok()
-        {
-            return;
-        }
-        keys.push(key);
-        self.begin(Row::Keys(keys));
-    }
-
-    // Writes the lines of the record that wait.
-    fn write_out(&mut self) {
-        let Some(name) = self.script else {
-            return;
-        };
-        if self.lines.is_empty() || self.failure.is_some() {
-            return;
-        }
-        if let Err(failure) = append(self.host, name, self.lines.as_bytes()) {
-            self.failure = Some(failure);
-        }
-        self.lines.clear();
-    }
-
     /// Writes the record to its end. An error says why it could not all be written, or why standard input could not be
     /// read.
-    pub fn finish(mut self) -> Result<(), Failure<'a>> {
-        self.meter.clear();
-        self.end_line();
-        self.write_out();
-        match self.failure.or(self.unread) {
+    pub fn finish(self) -> Result<(), Failure<'a>> {
+        let Seat {
+            host,
+            meter,
+            file,
+            unread,
+            ..
+        } = self;
+        meter.clear();
+        file.finish(host)?;
+        match unread {
             None => Ok(()),
             Some(failure) => Err(failure),
         }
@@ -202,7 +147,7 @@ impl<'a, 'b, H: Host, S: Screen, E: Write> Seat<'a, 'b, H, S, E> {
 
     // Reads what is typed; whether it was anything.
     fn read(&mut self) -> Result<bool, Given> {
-        self.write_out();
+        self.file.write_out(&mut *self.host);
         let mut bytes = [0; MOST_KEYS];
         match self.host.type_in(&mut bytes, self.is_terminal) {
             Ok(None) => Ok(false),
@@ -355,36 +300,15 @@ impl<H: Host, S: Screen, E: Write> Record for Seat<'_, '_, H, S, E> {
 
     fn steps(&mut self, count: u32) {
         self.meter.count(count);
-        if !self.is_kept() {
-            return;
-        }
-        match self.row {
-            Row::Steps(steps) if count <= MOST_EVENTS.saturating_sub(steps) => {
-                self.row = Row::Steps(steps + count);
-            }
-            _ => self.begin(Row::Steps(count)),
-        }
+        self.file.steps(&mut *self.host, count);
     }
 
     fn ticks(&mut self, count: u32) {
-        if !self.is_kept() {
-            return;
-        }
-        match self.row {
-            Row::Ticks(ticks) if count <= MOST_EVENTS.saturating_sub(ticks) => {
-                self.row = Row::Ticks(ticks + count);
-            }
-            _ => self.begin(Row::Ticks(count)),
-        }
+        self.file.ticks(&mut *self.host, count);
     }
 
     fn keys(&mut self, keys: &[u8]) {
-        if !self.is_kept() {
-            return;
-        }
-        for key in keys {
-            self.record_key(*key);
-        }
+        self.file.keys(&mut *self.host, keys);
     }
 }
 
@@ -394,7 +318,7 @@ impl<H: Host, S: Screen, E: Write> Terminal for Seat<'_, '_, H, S, E> {
     ghost is_beside = { λ a b same. refl };
 
     fn ask(&mut self, mood: Mood) -> Given {
-        self.end_line();
+        self.file.end_line(&mut *self.host);
         match mood {
             Mood::Busy => self.meter.show(0),
             Mood::Asleep | Mood::Idle => self.meter.pause(),

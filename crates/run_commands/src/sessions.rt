@@ -1,5 +1,6 @@
 //! A session at the keyboard.
-ghost use Rattle.std.specs.Prelude.{IfOk};
+ghost use Rattle.std.specs.Prelude.{IfOk, IfSome, OnOk, []};
+ghost use Rattle.host.specs.Files.{Writes};
 ghost use Rattle.run_commands.specs.Seats.{SatTo, SitsOutTo};
 ghost use Rattle.machine.specs.View.{IsUp};
 
@@ -121,7 +122,9 @@ fn boot_image<'a>(
 }
 
 // Makes the file of a record, which is empty so far, where one is wanted.
-fn begin_record<'a, H: Host>(script: Option<&'a str>, host: &mut H) -> Result<(), Failure<'a>> {
+fn begin_record<'a, H: Host>(script: Option<&'a str>, host: &mut H) -> Result<(), Failure<'a>>
+    ensures { OnOk result (IfSome script.entry (λ name. Writes name.now [] (H.files host.old) (H.files host.new))) }
+{
     match script {
         Some(name) => write(host, name, &[]),
         None => Ok(()),
