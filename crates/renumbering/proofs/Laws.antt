@@ -6,10 +6,12 @@ use Rattle.renumbering.proofs.Tables.{moved-back, moved-from, moved-itself, move
 use Rattle.renumbering.proofs.Tables.{same_numbers, way_back}
 use Rattle.renumbering.proofs.Going.{SeenAfter}
 use Rattle.renumbering.proofs.States.{Fits, Seen, View, state_in}
-use Rattle.renumbering.proofs.Turns.{event-in}
-use Rattle.renumbering.specs.Renumbered.{AreRenumbered, EventKeepsRenumbered, IsRenumbered, NamesAreThere, AreOpen}
-use Rattle.renumbering.specs.Renumbered.{EachTaken, IsMoved, IsOnPipeThere, Renumbering, RenumberedIsEquivalence}
-use Rattle.renumbering.specs.Renumbered.{RunKeepsRenumbered, file_moved, places_moved, process_moved, target_moved}
+use Rattle.renumbering.proofs.Turns.{computes-in, event-in, ready-in, runs-in, turn-in}
+use Rattle.renumbering.specs.Renumbered.{AreRenumbered, EventKeepsRenumbered, IsRenumbered, NamesAreThere}
+use Rattle.renumbering.specs.Renumbered.{AreOpen, EachTaken, IsMoved, IsOnPipeThere, Renumbering}
+use Rattle.renumbering.specs.Renumbered.{RenumberedIsEquivalence, RenumberedTakeTurnsAlike, RunKeepsRenumbered}
+use Rattle.renumbering.specs.Renumbered.{TurnsAreSame}
+use Rattle.renumbering.specs.Renumbered.{file_moved, places_moved, process_moved, target_moved}
 use Rattle.unixmodel.specs.Calls.{After}
 use Rattle.unixmodel.specs.Files.{slot}
 use Rattle.unixmodel.specs.Next.{next}
@@ -157,6 +159,21 @@ renumbered-equivalence = record {
   transitive = both;
   there = there-too;
 }
+
+-- ---- turns
+
+turns-in : {v : View} {s : State} → Fits v s → TurnsAreSame s (state_in v s)
+turns-in fits = record {
+  who_runs = sym (runs-in fits);
+  who_is_ready = λ i. sym (ready-in fits i);
+  whose_turn = sym (turn-in fits);
+  who_computes = sym (computes-in fits);
+}
+
+pub turns-alike : RenumberedTakeTurnsAlike
+turns-alike s t there alike =
+    let seen = seen-alike there alike in
+    subst (TurnsAreSame s) (sym seen.is) (turns-in seen.fits)
 
 -- ---- the law
 

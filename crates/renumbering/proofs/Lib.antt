@@ -9,4 +9,5 @@ pub mod Going
 pub mod Turns
 pub mod Laws
 pub mod Starts
+pub mod Pairing
 pub mod Clocks

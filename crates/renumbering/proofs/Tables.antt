@@ -48,7 +48,7 @@ swapped a b k = if k == a then b else if k == b then a else k
 swapped-first : (a b k : ℕ) → k ≡ a → swapped a b k ≡ b
 swapped-first a b k same = ap (λ t. if t then b else if k == b then a else k) (eq-eqb k a same)
 
-swapped-else : (a b k : ℕ) → (k ≡ a → ⊥) → (k ≡ b → ⊥) → swapped a b k ≡ k
+pub swapped-else : (a b k : ℕ) → (k ≡ a → ⊥) → (k ≡ b → ⊥) → swapped a b k ≡ k
 swapped-else a b k first second =
     ap (λ t. if t then b else if k == b then a else k) (ne_eqb k a first)
     ∙ ap (λ t. if t then a else k) (ne_eqb k b second)
@@ -61,7 +61,7 @@ swapped-second a b k same = elim (cases_eq k a) [
 ]
 
 -- what is the same at both is the same at all
-swapped-same : {Y : Type 0} (h : ℕ → Y) (a b : ℕ) → h a ≡ h b → (k : ℕ) → h (swapped a b k) ≡ h k
+pub swapped-same : {Y : Type 0} (h : ℕ → Y) (a b : ℕ) → h a ≡ h b → (k : ℕ) → h (swapped a b k) ≡ h k
 swapped-same h a b same k = elim (cases_eq k a) [
   | inl first ↦ ap h (swapped-first a b k first) ∙ sym same ∙ ap h (sym first)
   | inr other ↦ elim (cases_eq k b) [

@@ -8,6 +8,7 @@ use Rattle.renumbering.proofs.Going.{SeenAfter, after-quiet, call-in, end-in, re
 use Rattle.renumbering.proofs.States.{Fits, Seen, View, at-in, change-is, fits-change, fits-last, fits-put, has-end-in}
 use Rattle.renumbering.proofs.States.{put-is, seen-files, seen-places, seen-refl, state_in, where-in}
 use Rattle.renumbering.specs.Renumbered.{AreOpen, file_moved, places_moved, process_moved, target_moved}
+use Rattle.schedules.specs.Schedules.{computes, computes_as, computes_in}
 use Rattle.unixmodel.specs.Calls.{call, quiet}
 use Rattle.unixmodel.specs.Console.{Keyed, key}
 use Rattle.unixmodel.specs.FileCalls.{descriptor}
@@ -101,7 +102,7 @@ module _ {v : View} {s : State} (fits : Fits v s) where
   ready-in-in p (Waiting w) = ap (λ b. b || p.killed) (go-on-in p w w.number)
   ready-in-in p (Zombie status) = refl
 
-  ready-in : (i : ℕ) → ready t i ≡ ready s i
+  pub ready-in : (i : ℕ) → ready t i ≡ ready s i
   unfolding is_ready
   ready-in i = ap (holds (is_ready t)) (at-in fits i) ∙ held (process_at s i)
     where
@@ -109,13 +110,28 @@ module _ {v : View} {s : State} (fits : Fits v s) where
       held None = refl
       held (Some p) = ready-in-in p p.mode
 
-  turn-in : turn t ≡ turn s
+  pub turn-in : turn t ≡ turn s
   unfolding turn state_in
   turn-in = find-same (ready s) (ready t) ready-in (round_from s.last)
 
-  runs-in : running t ≡ running s
+  pub runs-in : running t ≡ running s
   unfolding state_in
   runs-in = where-in v.files is_running (λ p. refl) s.places
+
+  -- ---- whose next step computes
+
+  done-in : (o : Option Process) → computes_as (option_map (process_moved v.files) o) ≡ computes_as o
+  unfolding effect_of
+  done-in None = refl
+  done-in (Some p) = refl
+
+  computes-at : (o : Option ℕ) → computes_in t o ≡ computes_in s o
+  computes-at None = refl
+  computes-at (Some i) = ap computes_as (at-in fits i) ∙ done-in (process_at s i)
+
+  pub computes-in : computes t ≡ computes s
+  unfolding computes
+  computes-in = ap (computes_in t) runs-in ∙ computes-at (running s)
 
   -- ---- a turn
 

@@ -1,2 +1,3 @@
 pub mod Renumbered
 pub mod Alike
+pub mod Pairs

@@ -2,6 +2,7 @@
 -- No call returns such a number: a program has those of its own descriptors, and the tables of open files and pipes,
 -- which all processes share, give the first number that is free.
 use Rattle.std.specs.Prelude.{List, Option, Some, is_some, length, map, nat_lt, option_map, true, ℕ, ◌≡◌}
+use Rattle.schedules.specs.Schedules.{computes}
 use Rattle.unixmodel.specs.declared.event.Event.{Event}
 use Rattle.unixmodel.specs.Calls.{After}
 use Rattle.unixmodel.specs.Files.{Files, slot}
@@ -11,7 +12,8 @@ use Rattle.unixmodel.specs.OpenFiles.Target.{OnNode, OnPipe}
 use Rattle.unixmodel.specs.Process.{Process}
 use Rattle.unixmodel.specs.Run.{run}
 use Rattle.unixmodel.specs.Start.{start, start_flat}
-use Rattle.unixmodel.specs.State.{State}
+use Rattle.unixmodel.specs.State.{State, running}
+use Rattle.unixmodel.specs.Turn.{ready, turn}
 
 -- ---- other numbers
 
@@ -22,8 +24,8 @@ pub record Renumbering : Type 0 where
   pub back_there : (k : ℕ) → back (there k) ≡ k
   pub there_back : (k : ℕ) → there (back k) ≡ k
 
--- Table ys is table xs with each slot at its other number: the slot is free there, too, or holds what is made of what
--- it holds here. A number is one of a slot exactly if the other number is.
+-- Table ys is table xs with each slot at its other number: it is free there, too, or holds what is made of what it
+-- holds here. A number is one of a slot exactly if the other number is.
 pub record IsMoved {X : Type 0} (r : Renumbering) (made : X → X) (xs ys : List (Option X)) : Type 0 where
   pub holds : (k : ℕ) → slot ys (r.there k) ≡ option_map made (slot xs k)
   pub slots : (k : ℕ) → nat_lt (r.there k) (length ys) ≡ nat_lt k (length xs)
@@ -89,6 +91,16 @@ pub record RenumberedIsEquivalence : Type 0 where
   pub symmetric : (s t : State) → IsRenumbered s t → IsRenumbered t s
   pub transitive : (s t u : State) → IsRenumbered s t → IsRenumbered t u → IsRenumbered s u
   pub there : (s t : State) → IsRenumbered s t → NamesAreThere s → NamesAreThere t
+
+-- the same process runs, the same ones are ready, it is the turn of the same one, and the next step computes in both
+pub record TurnsAreSame (s t : State) : Type 0 where
+  pub who_runs : running s ≡ running t
+  pub who_is_ready : (i : ℕ) → ready s i ≡ ready t i
+  pub whose_turn : turn s ≡ turn t
+  pub who_computes : computes s ≡ computes t
+
+abbrev pub RenumberedTakeTurnsAlike : Type 0
+RenumberedTakeTurnsAlike = (s t : State) → NamesAreThere s → IsRenumbered s t → TurnsAreSame s t
 
 -- the same shows of two states, and one is the other with other numbers
 pub record AreRenumbered (a b : After) : Type 0 where

@@ -2,8 +2,9 @@
 #![tactic(auto)]
 
 ghost use Rattle.renumbering.specs.Alike.{EventKeepsNumbersAlike, RunKeepsNumbersAlike};
+ghost use Rattle.renumbering.specs.Pairs.{FittingStatesAreRenumbered};
 ghost use Rattle.renumbering.specs.Renumbered.{EventKeepsRenumbered, NamesStayThere, RenumberedIsEquivalence};
-ghost use Rattle.renumbering.specs.Renumbered.{RunKeepsRenumbered};
+ghost use Rattle.renumbering.specs.Renumbered.{RenumberedTakeTurnsAlike, RunKeepsRenumbered};
 
 /// In a state that a run leads to, each descriptor names an open file that is there, and each open file on a pipe one
 /// that is there.
@@ -14,6 +15,18 @@ pub fn names_stay_there()
 /// That one state is another with other numbers of open files and pipes is an equivalence.
 pub fn renumbered_is_equivalence()
     ensures { RenumberedIsEquivalence }
+{}
+
+/// Pairs of numbers suffice to find that one state is another with other numbers: pairs of open files that descriptors
+/// name one by one, and of pipes, where all other open files and pipes are free.
+pub fn fitting_states_are_renumbered()
+    ensures { FittingStatesAreRenumbered }
+{}
+
+/// In a state with other numbers of open files and pipes the same process runs, the same ones are ready, it is the turn
+/// of the same one, and the next step computes where it does in the state.
+pub fn renumbered_take_turns_alike()
+    ensures { RenumberedTakeTurnsAlike }
 {}
 
 /// A state with other numbers of open files and pipes goes on as the state does: the same is printed, process 1 ends
