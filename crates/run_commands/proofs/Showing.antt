@@ -183,3 +183,52 @@ pub passed-on : {T : Type 0} (r : Result T BootFault) (fault : BootFault) (Why :
     → IsErrAnd r (λ f. f ≡ fault) → Why fault → IfErr r Why
 passed-on (Ok x) fault Why is why = tt
 passed-on (Err f) fault Why is why = subst Why (sym is) why
+
+-- ---- the same, whatever is recorded
+
+abbrev pub unnoted : Noted → Noted
+unnoted noted = record { kept = None; keeps = None; before = noted.before; after = noted.after }
+
+unrecorded-out : {piece : Piece} {noted : Noted} {old new : View} {end : End} {unreached : Option Unreached}
+    → PlayedOut piece noted old new end unreached → PlayedOut piece (unnoted noted) old new end unreached
+unrecorded-out p = record {
+  events = p.events;
+  ended = p.ended;
+  vain = p.vain;
+  wanted = p.wanted;
+  told = p.told;
+  ends = p.ends;
+  records = tt;
+  plays = p.plays;
+}
+
+module _ {D : Type 0} (content : D → List (List ℕ)) (identity : D → List ℕ) (count : D → ℕ) where
+  unrecorded-image : {disk : D} {frames : ℕ} {piece : Piece} {noted : Noted} {saves : Bool} {end : End}
+      {unreached : Option Unreached} {left : Option D}
+      → IsImageRun content identity count disk frames piece noted saves end unreached left
+      → IsImageRun content identity count disk frames piece (unnoted noted) saves end unreached left
+  unfolding unrecorded-out
+  unrecorded-image i = record {
+    first = i.first;
+    booted = i.booted;
+    performed = record {
+      last = i.performed.last;
+      ended = i.performed.ended;
+      plays = unrecorded-out i.performed.plays;
+      leaves = i.performed.leaves;
+    };
+  }
+
+pub unrecorded : {D : Type 0} (content : D → List (List ℕ)) (identity : D → List ℕ) (count : D → ℕ)
+    (fail : Option NonZeroU64) (disk : D) (frames : ℕ) (piece : Piece) (noted : Noted) (saves : Bool) (end : End)
+    (unreached : Option Unreached) (left : Option D)
+    → IsRunWith content identity count fail disk frames piece noted saves end unreached left
+    → IsRunWith content identity count fail disk frames piece (unnoted noted) saves end unreached left
+unrecorded content identity count None disk frames piece noted saves end unreached left i =
+    unrecorded-image content identity count i
+unrecorded content identity count (Some n) disk frames piece noted saves end unreached left i = record {
+  failing = i.failing;
+  inner = i.inner;
+  runs = unrecorded-image (λ (d : Failing _). content d.device) (failing_identity identity)
+      (failing_count count) i.runs;
+}
