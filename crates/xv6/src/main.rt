@@ -1,12 +1,12 @@
 //! The command line of the machine: does the job that the words name, on real files.
 #![tactic(auto)]
 
-mod host;
+mod real_files;
 
 use commands::perform::perform;
 use commands::{Job, explain, explain_words, explains, job, refuse};
 use explanations::Noting;
-use host::{RealFiles, Terminals};
+use real_files::{RealFiles, Terminals};
 use std::alloc::AllocError;
 use std::io::{self, BufWriter, ErrorKind, IsTerminal, Write};
 use std::process::ExitCode;

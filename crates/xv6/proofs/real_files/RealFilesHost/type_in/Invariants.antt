@@ -1,5 +1,5 @@
 use Rattle.std.proofs.Common.{◌≡◌, length}
-use Rattle.xv6.proofs.host.RealFilesHost.type_in.Given as goal
+use Rattle.xv6.proofs.real_files.RealFilesHost.type_in.Given as goal
 
 -- as many bytes as the buffer has at the call
 abbrev pub invariant-loop : goal.invariant-loop
