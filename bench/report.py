@@ -62,7 +62,7 @@ def steps(place):
         timed.append([row.name, *(f"{it:.2f}" for it in took), *(f"{took[0] / it:.2f}" for it in took[1:])])
     first = {line[0]: float(line[1]) for line in counted}
     text = "Instructions of the host a step (callgrind, by the difference of two sizes).\n"
-    text += "Plain Rust has a cache of translations with `--tlb`; the twin, which decodes a word once into blocks, is the fastest that we know:\n\n"
+    text += "Plain Rust has a cache of translations with `--tlb`.\nThe twin, which decodes a word once into blocks, is the fastest that we know:\n\n"
     text += table(["row", *BESIDE_WORDS], counted)
     text += f"\n\nNanoseconds a step, processor time, the least of {TURNS} turns in one run, and the program's ratio to each:\n\n"
     text += table(["row", *BESIDE_WORDS, *(f"by {name}" for name in BESIDE_WORDS[1:])], timed)
@@ -80,9 +80,10 @@ def beside_code(place):
             took = [it.seconds / row.count * 1e9 for it in compare_row(row, place, TURNS)]
             timed.append([row.name, *(f"{it:.2f}" for it in took), *(f"{took[0] / it:.1f}" for it in took[1:])])
     left_out = f" Not installed and left out: {', '.join(rows.missing())}." if rows.missing() else ""
-    text = "\n\nThe same beside code of the host: qemu's of the same bytes, as a process of Linux and on a bare computer without pages, and\n"
-    text += "the compiler's of the same C. The time of a program that ends at once is taken off each of them, and\n"
-    text += f"what is less than a millisecond then counts as one.{left_out}\n\n"
+    text = "\n\nThe same beside code of the host: qemu's of the same bytes, as a process of Linux and on a bare computer without\n"
+    text += "pages, and the compiler's of the same C.\n"
+    text += "The time of a program that ends at once is taken off each of them, and what is less than a millisecond counts as one.\n"
+    text += f"{left_out}\n\n".lstrip(" ") if left_out else "\n"
     return text + table(["row", "the program", *names, *(f"by {name}" for name in names)], timed)
 
 
