@@ -158,7 +158,7 @@ check-docs:
 bench: | program
 	bench/run.py $(PROGRAM)
 
-# Measures what docs/MEASURED.md and the README say, and writes it there: an hour.
+# Measures what docs/MEASURED.md and the README say, and writes it there: half an hour or more.
 measure: | program
 	bench/report.py $(PROGRAM)
 
