@@ -1,5 +1,8 @@
 # What one does with this repository: `make help` lists it. `rt` is the command of the Rattle toolchain.
 
+# With it the kit's rt asks for each crate's sum once, and not once for each path that leads to it through crates.txt.
+export PYTHONPATH := $(CURDIR)/tools/once$(if $(PYTHONPATH),:$(PYTHONPATH))
+
 # Where `rt run` leaves the program once every crate below it is proved.
 PROGRAM := crates/xv6/out/xv6
 
@@ -281,6 +284,11 @@ explore: | program
 check-explore: | program
 	trials/explore/check.py $(PROGRAM)
 	trials/explore/plain.py $(PROGRAM)
+
+# Runs the processes of a session again by their log of commits alone, with a simulator of RV64IM in Python: docs/TRACES.md.
+.PHONY: check-commits
+check-commits: | program
+	trials/commits.py $(PROGRAM)
 
 # Debugs small programs in C by scripts of gdb and lldb, and compares what they print; then 200 random runs, times from all sides, and hostile packets.
 # It needs Debian's packages gdb-multiarch and gcc-riscv64-unknown-elf; what is for lldb is left out where there is none.

@@ -90,16 +90,25 @@ def beside_code(place):
 # ---- who looks on
 
 
+# The ratios of plays of 5,000,000 steps while each step was looked at, and what a line of commits took then.
+LOOKED_AT_EACH_STEP = {"--report": "40 to 50", "--json": "40 to 50"}
+COMMIT_BEFORE = 700
+
+
 def looking_on(place):
     """Seconds of a run at which somebody looks on, and the ratio to the same run without."""
     looked = list(rows.looking_rows())
     alone = looked[0].beside[0].job
     jobs = [alone, *(row.job for row in looked)]
     took = [it.seconds for it in compare([job.command(place) for job in jobs], TURNS)]
-    lines = [[f"`{' '.join(job.by)}`", f"{seconds:.3f}", f"{seconds / took[0]:.2f}"] for job, seconds in zip(jobs, took)]
+    olds = [next((LOOKED_AT_EACH_STEP[word] for word in job.by if word in LOOKED_AT_EACH_STEP), "") for job in jobs]
+    lines = [
+        [f"`{' '.join(job.by)}`", f"{seconds:.3f}", f"{seconds / took[0]:.2f}", old] for job, seconds, old in zip(jobs, took, olds)
+    ]
     text = "A run of 10,000,000 steps with 1000 calls: seconds of processor time, the least of "
-    text += f"{TURNS} turns, and the ratio to the first:\n\n"
-    return text + table(["by", "seconds", "ratio"], lines) + committing(place)
+    text += f"{TURNS} turns, and the ratio to the first.\n"
+    text += "The old ratios are of plays of 5,000,000 steps, of which each was looked at:\n\n"
+    return text + table(["by", "seconds", "ratio", "old ratio"], lines) + committing(place)
 
 
 def committing(place):
@@ -107,7 +116,8 @@ def committing(place):
     [row] = rows.commit_rows()
     logged, alone = compare_row(row, place, TURNS)
     nanoseconds = (logged.seconds - alone.seconds) / row.count * 1e9
-    return f"\n\n`trace --commits` takes {nanoseconds:.0f} ns more a step than `run`, with the host's time for the file."
+    text = f"\n\n`trace --commits` takes {nanoseconds:.0f} ns more a step than `run`, with the host's time for the file\n"
+    return text + f"({COMMIT_BEFORE} when a line was put together piece by piece)."
 
 
 # ---- a debugger

@@ -1,7 +1,7 @@
 #!/usr/bin/env python3
 """Tries the further wrong bodies of crates, crates/NAME/edits: the prover must refuse each of them.
 
-    tools/edits.py            those of every crate: some four hours of a processor, by estimate
+    tools/edits.py            those of every crate: some five hours of a processor, by estimate
     tools/edits.py ram vm     those of these crates
 
 The gate tries those of crates/*/must-fail. Those of crates/*/edits have the same form: whoever changes a crate tries

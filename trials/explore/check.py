@@ -29,9 +29,13 @@ SUM, FACTOR, MASK = 0xcbf29ce484222325, 0x100000001b3, (1 << 64) - 1
 
 # How many outcomes a program has.
 WANTED = {
-    "counter": 2, "counter_2": 3, "counter_s": 2, "counter_locked": 1, "counter_locked_2": 1,
+    "counter": 2, "counter_2": 3, "counter_s": 2, "counter_3": 4, "counter_locked": 1, "counter_locked_2": 1,
+    "counter_locked_s": 1, "locks_ordered_s": 1,
     "writers": 2, "writers_ordered": 1, "locks": 2, "locks_s": 2, "locks_ordered": 1, "child": 2, "child_right": 1,
 }
+
+# Those that are not explored with --fine, too, and the words that they are explored with.
+LARGE = {"counter_2": [], "counter_locked_2": [], "counter_3": ["--states", "20000000"]}
 
 
 def fail(*words):
@@ -126,17 +130,23 @@ def replay(program, image, outcome, script):
         fail(image, script, "leaves other files")
 
 
-def agree(program, image, folder):
-    """Explores an image both ways, replays each script, and returns what was told and found."""
-    text, status = explore(program, image, "--scripts", str(folder))
-    fine, fine_status = explore(program, image, "--fine")
-    found, finer = outcomes_of(text), outcomes_of(fine)
-    if {shown(one) for one in found} != {shown(one) for one in finer} or status != fine_status:
-        fail(image, "has other outcomes with --fine:", text, fine)
+def replayed(program, image, folder, words=()):
+    """Explores an image, replays each script, and returns what was told and found."""
+    text, status = explore(program, image, "--scripts", str(folder), *words)
+    found = outcomes_of(text)
     if [int(one[1]) for one in found] != sorted(int(one[1]) for one in found):
         print("note: outcomes aren't in the order of their interrupts:", image)
     for number, outcome in enumerate(found, 1):
         replay(program, image, outcome, folder / f"{number}.script")
+    return text, found, status
+
+
+def agree(program, image, folder):
+    """Explores an image both ways, replays each script, and returns what was told and found."""
+    text, found, status = replayed(program, image, folder)
+    fine, fine_status = explore(program, image, "--fine")
+    if {shown(one) for one in found} != {shown(one) for one in outcomes_of(fine)} or status != fine_status:
+        fail(image, "has other outcomes with --fine:", text, fine)
     return text, found, status
 
 
@@ -145,9 +155,8 @@ def check_races(program, scratch):
     for name, count in WANTED.items():
         image = RACES / f"out/{name}.img"
         begun = seconds()
-        if name in ("counter_2", "counter_locked_2"):
-            text, status = explore(program, image)
-            found = outcomes_of(text)
+        if name in LARGE:
+            text, found, status = replayed(program, image, scratch / name, LARGE[name])
         else:
             text, found, status = agree(program, image, scratch / name)
         if len(found) != count or CLAIM not in text or status != (0 if count == 1 else 1):

@@ -5,12 +5,15 @@ use Rattle.cache.proofs.Common.{subst, ◌∙◌, arith, inl, inr, Blocks, optio
 use Rattle.cache.proofs.Common.{or_parts, lookup_from_place, get_or-set_same, LruCache, put_entries, last_entry}
 use Rattle.cache.proofs.Common.{block_at, Slot, AreKept, IsKept, IsLastSafe, kept_or, overlay, ◌+◌, drop, true, MutBor}
 use Rattle.cache.proofs.Common.{OnErr, UnwrapsOrElse, option_copied, option_copied_mut, set_value, lru_cache, promoted}
-use Rattle.cache.proofs.Common.{AreBlocks, part, splice, length-splice, put_mid-splice, Disk, IsErrAnd, is_err}
-use Rattle.cache.proofs.Common.{DeviceFault, Goes, Reads, Steps, Rises, HasCause}
+use Rattle.cache.proofs.Common.{part, splice, length-splice, put_mid-splice, Disk, IsErrAnd, is_err, is_ok, set-get_or}
+use Rattle.cache.proofs.Common.{DeviceFault, Goes, Reads, Steps, Rises, HasCause, with_block}
+use Rattle.cache.proofs.Common.{AreBlocks, ◌++◌}
+use Rattle.std.proofs.Common.{append-nil}
+use Rattle.std.proofs.lemmas.List.{drop_all}
 use Rattle.std.specs.Map.Iter.{deref_pair}
 use Rattle.cache.proofs.Overlays.{Entries, bytes_or, lookup-cut, lookup-here, lookup-later, put-is, held-some}
-use Rattle.cache.proofs.Overlays.{held-none, overlay-same, lookup-promoted, AreKept-promoted, AreKept-set, at-overlay}
-use Rattle.cache.proofs.Overlays.{length-overlay, overlay-other, overlay-promoted, overlay-set}
+use Rattle.cache.proofs.Overlays.{held-none, overlay-put, lookup-promoted, AreKept-promoted, AreKept-set, at-overlay}
+use Rattle.cache.proofs.Overlays.{length-overlay, overlay-other, overlay-promoted, overlay-set, sizes-overlay}
 use Rattle.std.specs.Prelude.{IfOk, MatchResult}
 use borrow.Rule.Slice.PartMut.{put_mid}
 use Rattle.std.proofs.lemmas.Result.{err_from_is_err_and}
@@ -96,16 +99,12 @@ module _ (c : LruCache ℕ Slot) (n : ℕ) (v : Slot) (absent : lookup (nat_eq n
   AreKept-put d b safe held new =
       subst (λ es. AreKept es d b) (sym (put-is c n v absent)) (held-after d b safe.fits held new)
 
-  -- a block as it was read comes in
-  pub overlay-read : (d : Blocks) → IsLastSafe c d → v.bytes ≡ block_at d n
-      → overlay (put_entries nat_eq c n v) d ≡ overlay c.entries d
-  overlay-read d safe same = ap (λ es. overlay es d) (put-is c n v absent)
-      ∙ overlay-same c.entries after d d refl (λ k _. elim (cases_eq k n) [
-        | inl is ↦ held-some after d k v (lookup-here (n, v) (take (c.cap - 1) c.entries) k is) ∙ same
-            ∙ ap (block_at d) (sym is)
-            ∙ sym (held-none c.entries d k (ap (λ i. lookup (nat_eq i) c.entries) is ∙ absent))
-        | inr not ↦ others d safe k not
-      ])
+  -- it comes in
+  pub overlay-came : (d : Blocks) → IsLastSafe c d → n < length d
+      → overlay (put_entries nat_eq c n v) d ≡ set (overlay c.entries d) n v.bytes
+  overlay-came d safe low = ap (λ es. overlay es d) (put-is c n v absent)
+      ∙ overlay-put c.entries after d d n v.bytes refl low (λ k _ not. others d safe k not)
+      (held-some after d n v (lookup-here (n, v) (take (c.cap - 1) c.entries) n refl))
 
 pub blocks-are : {D : Type 0} {x y : Disk D} → x ≡ y → x.blocks ≡ y.blocks
 blocks-are {D} e = ap (λ (d : Disk D). d.blocks) e
@@ -153,28 +152,56 @@ pub shown : {l : LruCache ℕ Slot} {c : Blocks} {b : Bool} {blocks : Blocks} {n
 shown {l} {c} {n = n} u none = sym (held-none l.entries c n none) ∙ sym (at-overlay l.entries c n u.low)
     ∙ ap (λ x. block_at x n) u.shows
 
--- a block as the device has it comes in, if there is memory
+-- a block comes in, if there is memory
 abbrev CameIn : {X E : Type 0} → LruCache ℕ Slot → LruCache ℕ Slot → ℕ → Slot → Result X E → Type 0
 CameIn l new n s r = OnOk r (new ≡ lru_cache (put_entries nat_eq l n s) l.cap) × OnErr r (new ≡ l)
 
-module _ {X E : Type 0} {l : LruCache ℕ Slot} {c : Blocks} {b : Bool} {blocks : Blocks} {n : ℕ} (s : Slot)
-    (new : LruCache ℕ Slot) (r : Result X E)
-    (u : IsUsed l c b blocks n) (safe : IsLastSafe l c) (none : lookup (nat_eq n) l.entries ≡ None)
-    (same : s.bytes ≡ block_at c n) (came : CameIn l new n s r) where
-  pub read-held : AreBlocks c → AreKept new.entries c b
-  read-held sizes = held r came where
+pub came-refused : {X E : Type 0} (l new : LruCache ℕ Slot) (n : ℕ) (s : Slot) (r : Result X E) → CameIn l new n s r
+    → is_ok r ≡ false → new ≡ l
+came-refused l new n s (Ok x) came refused = absurd cc
+came-refused l new n s (Err x) came refused = came.1
+
+module _ {X E : Type 0} {l : LruCache ℕ Slot} {c : Blocks} {n : ℕ} (s : Slot) (new : LruCache ℕ Slot) (r : Result X E)
+    (low : n < length c) (safe : IsLastSafe l c) (none : lookup (nat_eq n) l.entries ≡ None)
+    (came : CameIn l new n s r) where
+  pub came-held : {b : Bool} → AreKept l.entries c b → IsKept c b n s → AreKept new.entries c b
+  came-held {b} kept new_one = held r came where
     held : (r : Result X E) → CameIn l new n s r → AreKept new.entries c b
     held (Ok x) came = subst (λ (m : LruCache ℕ Slot). AreKept m.entries c b) (sym came.0)
-        (AreKept-put l n s none c b safe u.held
-        (record { inside = u.low; size = ap length same ∙ sizes n u.low; clean = λ _ _. same }))
-    held (Err x) came = subst (λ (m : LruCache ℕ Slot). AreKept m.entries c b) (sym came.1) u.held
+        (AreKept-put l n s none c b safe kept new_one)
+    held (Err x) came = subst (λ (m : LruCache ℕ Slot). AreKept m.entries c b) (sym came.1) kept
 
-  pub read-shows : overlay new.entries c ≡ blocks
-  read-shows = shows r came where
-    shows : (r : Result X E) → CameIn l new n s r → overlay new.entries c ≡ blocks
-    shows (Ok x) came = ap (λ (m : LruCache ℕ Slot). overlay m.entries c) came.0 ∙ overlay-read l n s none c safe same
-        ∙ u.shows
-    shows (Err x) came = ap (λ (m : LruCache ℕ Slot). overlay m.entries c) came.1 ∙ u.shows
+  pub came-shows : overlay new.entries c ≡ with_block (is_ok r) (overlay l.entries c) n s.bytes
+  came-shows = shows r came where
+    shows : (r : Result X E) → CameIn l new n s r
+        → overlay new.entries c ≡ with_block (is_ok r) (overlay l.entries c) n s.bytes
+    shows (Ok x) came =
+        ap (λ (m : LruCache ℕ Slot). overlay m.entries c) came.0 ∙ overlay-came l n s none c safe low
+    shows (Err x) came = ap (λ (m : LruCache ℕ Slot). overlay m.entries c) came.1
+
+-- a block comes in as it is shown
+with-same : (is_in : Bool) (blocks : Blocks) (n : ℕ) {block : List ℕ} → block ≡ block_at blocks n
+    → with_block is_in blocks n block ≡ blocks
+with-same true blocks n same = ap (set blocks n) same ∙ set-get_or blocks n []
+with-same false blocks n same = refl
+
+pub read-shows : {l : LruCache ℕ Slot} {c : Blocks} {b : Bool} {blocks new : Blocks} {n : ℕ} {block : List ℕ}
+    → IsUsed l c b blocks n → (is_in : Bool) → new ≡ with_block is_in (overlay l.entries c) n block
+    → block ≡ block_at blocks n → new ≡ blocks
+read-shows {n = n} {block} u is_in came same =
+    came ∙ ap (λ xs. with_block is_in xs n block) u.shows ∙ with-same is_in _ n same
+
+-- of a block that isn't held, what is shown is what the device has
+pub unheld-same : (es : Entries) (c d : Blocks) (n : ℕ) → lookup (nat_eq n) es ≡ None → length d ≡ length c
+    → n < length c → overlay es d ≡ overlay es c → block_at d n ≡ block_at c n
+unheld-same es c d n none count low same =
+    sym (held-none es d n none) ∙ sym (at-overlay es d n (omega arith)) ∙ ap (λ x. block_at x n) same
+    ∙ at-overlay es c n low ∙ held-none es c n none
+
+-- what a changed block has needs not be the device's
+pub changed-kept : (c : Blocks) (b : Bool) (n : ℕ) (bytes : List ℕ) → n < length c → length bytes ≡ 1024
+    → IsKept c b n (record { bytes = bytes; changed = true })
+changed-kept c b n bytes low size = record { inside = low; size = size; clean = λ _ clean. absurd cc }
 
 -- what becomes of a cache as a block comes in that it doesn't hold
 pub came-in : {E : Type 0} (l new : LruCache ℕ Slot) (n : ℕ) (s : Slot) (r : Result (Bor Slot) E)
@@ -235,17 +262,40 @@ module _ (old : LruCache ℕ Slot) (c : Blocks) (b : Bool) (blocks : Blocks) (n 
       ∙ ap (λ l. set l n t.bytes) (overlay-promoted old.entries c n ∙ shows)
       ∙ ap (set blocks n) (ap (λ (x : Slot). x.bytes) now ∙ ap (splice at bytes) (hit old c blocks n s shows low is))
 
--- bytes are written into it, where it isn't held
+-- a block that isn't held is written to the device
+pub unheld-shows : {E : Type 0} (es : Entries) (c : Blocks) {blocks : Blocks} (n : ℕ) (block new : List ℕ) (d : Blocks)
+    (r : Result Unit E) → overlay es c ≡ blocks → n < length c → lookup (nat_eq n) es ≡ None → block ≡ new
+    → OnOk r (d ≡ set c n block) → OnOk r (overlay es d ≡ set blocks n new)
+unheld-shows es c n block new d (Ok x) shows low none same written =
+    ap (overlay es) (written ∙ ap (set c n) same) ∙ overlay-other es c n new none low ∙ ap (λ x. set x n new) shows
+unheld-shows es c n block new d (Err x) shows low none same written = written
+
+-- bytes are written into it
 module _ (l : LruCache ℕ Slot) (c : Blocks) (blocks : Blocks) (n at k : ℕ) (block bytes new : List ℕ)
     (shows : overlay l.entries c ≡ blocks) (low : n < length blocks) (none : lookup (nat_eq n) l.entries ≡ None) where
   pub refused-shows : {E : Type 0} (d : Blocks) (r : Result Unit E) → block ≡ block_at blocks n → new ≡ bytes
       → k ≡ length bytes → OnOk r (d ≡ set c n (put_mid at k block new))
       → OnOk r (overlay l.entries d ≡ set blocks n (splice at bytes (block_at blocks n)))
-  refused-shows d (Ok x) read after count written = ap (overlay l.entries) written
-      ∙ overlay-other l.entries c n (put_mid at k block new) none (low-shown l.entries c shows low)
-      ∙ ap (λ x. set x n (put_mid at k block new)) shows
-      ∙ ap (set blocks n) (put_mid-splice at k block new bytes after count ∙ ap (splice at bytes) read)
-  refused-shows d (Err x) read after count written = written
+  refused-shows d r read after count written =
+      unheld-shows l.entries c n _ _ d r shows (low-shown l.entries c shows low) none
+      (put_mid-splice at k block new bytes after count ∙ ap (splice at bytes) read) written
+
+-- it is written whole
+splice-whole : (at : ℕ) (bytes old : List ℕ) → length bytes ≡ 1024 → at + length bytes ≤ 1024 → length old ≡ 1024
+    → splice at bytes old ≡ bytes
+splice-whole at bytes old long fits size =
+    let front : at ≡ 0 = omega arith in
+    rw front (ap (λ rest. bytes ++ rest) (drop_all (0 + length bytes) old (omega arith)) ∙ append-nil bytes)
+
+pub whole-shows : {E : Type 0} (es : Entries) (c : Blocks) (d : Bool) {blocks : Blocks} (new : Blocks) (n at : ℕ)
+    (bytes : List ℕ) (r : Result Unit E) → AreKept es c d → AreBlocks c → overlay es c ≡ blocks → n < length blocks
+    → length bytes ≡ 1024 → at + length bytes ≤ 1024 → OnOk r (new ≡ set (overlay es c) n bytes)
+    → OnOk r (new ≡ set blocks n (splice at bytes (block_at blocks n)))
+whole-shows es c d {blocks} new n at bytes (Ok x) kept sizes shows low long fits written =
+    let size : length (block_at blocks n) ≡ 1024 = subst AreBlocks shows (sizes-overlay es c d kept sizes) n low in
+    written ∙ ap (λ x. set x n bytes) shows
+    ∙ ap (set blocks n) (sym (splice-whole at bytes (block_at blocks n) long fits size))
+whole-shows es c d new n at bytes (Err x) kept sizes shows low long fits written = written
 
 -- ---- how steps on a disk follow one another, and how a call of several ends
 

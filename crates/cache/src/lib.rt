@@ -15,10 +15,10 @@ ghost use Rattle.cache.specs.Steps.{AsBefore, IsCopy, Reads, Steps};
 
 mod held;
 
-use blockdev::{Block, BlockDev, DeviceFault, Duplicate};
+use blockdev::{BLOCK_SIZE, Block, BlockDev, DeviceFault, Duplicate};
 use held::{
-    Slot, Slots, change, duplicates, make_room, next_to_write, recent, set_held, write_now,
-    write_out,
+    Slot, Slots, change, duplicates, hold, next_to_write, recent, set_held, write_now, write_out,
+    write_whole,
 };
 use lru::LruCache;
 use std::alloc::{AllocError, Allocator, Global};
@@ -108,19 +108,17 @@ impl<D: BlockDev, A: Allocator + Clone> Cache<D, A> {
             return Ok(slot.bytes);
         }
         let bytes = self.device.read(n)?;
-        make_room(&mut self.device, &self.held, &mut self.in_doubt)?;
         let slot = Slot {
             bytes,
             changed: false,
         };
-        // Without memory for it the block isn't held. `put` would hand on what had to leave, which costs more than all
-        // else.
-        let _ = self.held.get_or_insert(
+        hold(
+            &mut self.device,
+            &mut self.held,
+            &mut self.in_doubt,
             n,
-            ||
-                ensures { result ≡ slot }
-            { slot },
-        );
+            &slot,
+        )?;
         Ok(bytes)
     }
 
@@ -182,7 +180,7 @@ impl<D: BlockDev, A: Allocator + Clone> Cache<D, A> {
         Ok(())
     }
 
-    /// Writes bytes into block `n` from offset `at` on.
+    /// Writes bytes into block `n` from offset `at` on. What a block had that is written whole is not read.
     pub fn write(&mut self, n: usize, at: usize, bytes: &[u8]) -> Result<(), DeviceFault>
         requires block { n < length self.old.blocks }
         requires fits { at + length bytes.now ≤ 1024 }
@@ -193,10 +191,19 @@ impl<D: BlockDev, A: Allocator + Clone> Cache<D, A> {
             change(slot, at, bytes);
             return Ok(());
         }
+        if bytes.len() == BLOCK_SIZE {
+            return write_whole(
+                &mut self.device,
+                &mut self.held,
+                &mut self.in_doubt,
+                n,
+                bytes,
+            );
+        }
         self.write_unheld(n, at, bytes)
     }
 
-    // The same for a block that isn't held: it is read first. Out of line, as `read_unheld` is.
+    // The same for a part of a block that isn't held: the block is read first. Out of line, as `read_unheld` is.
     #[inline(never)]
     fn write_unheld(&mut self, n: usize, at: usize, bytes: &[u8]) -> Result<(), DeviceFault>
         requires block { n < length self.old.blocks }

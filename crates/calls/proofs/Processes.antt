@@ -17,6 +17,7 @@ use Rattle.calls.proofs.Common.{Wait, wait_for, waits-other, waking, with_answer
 use Rattle.calls.proofs.Common.{within-state, without_nodes, without_opens, without_pipes, wrote-state, zero}
 use Rattle.calls.proofs.Common.{zombie_child, ℕ, ℤ, ◌%◌, ◌&&◌, ◌+ℤ◌, ◌+◌, ◌<◌, ◌==◌, ◌||◌, ◌∙◌, ◌∷◌, ◌≡◌, ◌≢◌}
 use Rattle.kernel.proofs.Readies.{place-changed, place-state, process-state}
+use Rattle.calls.proofs.Common.{Result}
 use Rattle.std.specs.List.{list_any}
 use Rattle.unixmodel.specs.Outcome.{halt_status, orphaned, with_zombie, zombie_of}
 use Rattle.unixmodel.specs.ProcessCalls.{fork_row, kill_row, sbrk_row, wait_on, wait_row}
@@ -31,7 +32,9 @@ use Rattle.unixmodel.specs.OpenFiles.{OpenFile, is_node}
 use Rattle.calls.proofs.Acts.{came, makes, refused, does, begins-on, goes-done, goes-waits, going, provided-refused}
 use Rattle.unixmodel.specs.Process as unix
 use Rattle.unixmodel.specs.ProcessCalls as rows
-use Rattle.kernel.proofs.Forking.{fork-full, fork-state, free-run, IsSeat, next-run, seat-is}
+use Rattle.kernel.proofs.Forking.{fork-full, fork-state, free-run, next-run}
+use Rattle.kernel.specs.Processes.{HasForked, LacksRoom}
+use Rattle.proc.proofs.Waiting.{IsSeat, seat-is}
 use Rattle.proc.specs.declared.table.ProcFault.{ProcFault}
 use Rattle.proc.specs.declared.table.Seat.{Seat}
 use Rattle.std.specs.Int.{w32}
@@ -217,7 +220,7 @@ module _ {k : Kernel} {i : ℕ} (runs : Runs k i) where
   unseated-go (Some j) true fault at left is = let e = rw left at is in absurd (cc)
   unseated-go (Some j) false fault at left is = rw (free-run x.runner, at, next-run x.runner, left) refl
 
-  pub fork-unseated : {fault : ProcFault} → seat_of k.table ≡ Err fault → Acts k k i (Some Fork) Refuses
+  fork-unseated : {fault : ProcFault} → seat_of k.table ≡ Err fault → Acts k k i (Some Fork) Refuses
   fork-unseated {fault} seats =
       refused x (Some Fork) (ap limited
       (unseated-go (free_slot k.table.places) (nat_le k.table.next_pid last_pid) fault refl refl seats))
@@ -239,19 +242,24 @@ module _ {k : Kernel} {i : ℕ} (runs : Runs k i) where
         (sym (fork-state x.runner runs.zero runs.aligned seat is))
         ∙ ap (λ (n : ℕ). Done (state_of new) n []) (next ∙ sym is.pid))
 
-    pub fork-unfit : k.spaces.frames < taken_frames (copied k.spaces i seat.place) → Acts k k i (Some Fork) Refuses
+    fork-unfit : k.spaces.frames < taken_frames (copied k.spaces i seat.place) → Acts k k i (Some Fork) Refuses
     fork-unfit over = refused x (Some Fork)
         (ap limited forked-row ∙ rw (fork-full x.runner runs.zero runs.aligned seat is over) refl)
 
-    pub forks : {k' : Kernel} → IsKernel k'
-        → ((p : Process) → slot k.table.places i ≡ Some p
-        → k' ≡ waking (forked_as k i seat (on_hart k.spaces p)) k'.table.awake)
-        → Acts k k' i (Some Fork) (Answers seat.pid)
-    forks {k'} sound made =
-        let so = made x.process x.run.process in
-        does x Fork seat.pid (here-as x sound so refl (ap (λ (y : Kernel). y.tree.failed) so ∙ runs.up))
-        (rw so (record { up = runs.up; same_device = refl; later = omega arith }))
-        (forked-row ∙ ap (λ (s : State). Done s seat.pid []) (sym (state-but new so)))
+  pub fork-refused : LacksRoom k i → Acts k k i (Some Fork) Refuses
+  fork-refused lacks = go (seat_of k.table) refl where
+    go : (r : Result Seat ProcFault) → seat_of k.table ≡ r → Acts k k i (Some Fork) Refuses
+    go (Ok seat) is = fork-unfit is (lacks seat is)
+    go (Err fault) is = fork-unseated is
+
+  pub forks : {k' : Kernel} {seat : Seat} → IsKernel k' → HasForked k k' i seat
+      → Acts k k' i (Some Fork) (Answers seat.pid)
+  forks {k'} {seat} sound forked =
+      let so = forked.same x.process x.run.process in
+      let new = forked_as k i seat (on_hart k.spaces x.process) in
+      does x Fork seat.pid (here-as x sound so refl (ap (λ (y : Kernel). y.tree.failed) so ∙ runs.up))
+      (rw so (record { up = runs.up; same_device = refl; later = omega arith }))
+      (forked-row forked.next ∙ ap (λ (s : State). Done s seat.pid []) (sym (state-but new so)))
 
 -- ---- sbrk
 

@@ -46,14 +46,11 @@ pub(crate) fn fork<D: BlockDev, T: Translate>(kernel: &mut Kernel<D, T>, at: usi
     requires { Runs kernel.old at }
     ensures { Acts kernel.old kernel.new at (Some Call.Fork) result }
 {
-    let Ok(seat) = kernel.next_seat() else {
+    let Some(pid) = kernel.fork(at) else {
         return Came::Refuses;
     };
-    if !kernel.fork(at, seat) {
-        return Came::Refuses;
-    }
     kernel.is_sound();
-    Came::Answers(u64::from(seat.pid))
+    Came::Answers(u64::from(pid))
 }
 
 /// exit(status): the process ends.

@@ -372,9 +372,7 @@ fn write_file<D: BlockDev, T: Translate>(
     requires { Uses kernel.old at End.Write (target.File number offset) pending }
     ensures { GoesOnDisk kernel.old kernel.new at pending result }
 {
-    let Some(id) = kernel.open_id(at, low(pending.args[0])) else {
-        unreachable!()
-    };
+    let id = kernel.open_id(at, low(pending.args[0])).unwrap();
     let count = u64::from(low(pending.args[2]));
     match kernel.write_node(at, number as usize, offset, pending.args[1], count) {
         Ok(wrote) => {

@@ -717,7 +717,7 @@ Example, of a program whose two processes count in one file:
 
 xv6 explore --scripts out counter.img
 
-    2 outcomes under all schedules: 645 states, 3 ends, 0.1 s
+    2 outcomes under all schedules: [..]
       0 ticks   halt 1 InitEnded 2   2 ends   console \"\"   files 6c0f37cc   out/1.script
       1 tick   halt 1 InitEnded 1   1 end   console \"\"   files 351a9f30   out/2.script
     differ in: status; /n has \"2\", or \"1\"

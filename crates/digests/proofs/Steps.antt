@@ -16,11 +16,11 @@ use Rattle.proc.specs.declared.process.Process.{Process}
 use Rattle.proc.specs.Places.{Places, changed_at}
 use Rattle.kernel.specs.Sound.{IsKernel}
 use Rattle.kernel.specs.Whole.{with_space}
-use Rattle.digests.specs.Digest.{by_clock, clock_by, mode_by}
-use Rattle.digests.specs.Reads.{process_by}
-use Rattle.digests.proofs.Common.{opens_mixed, pipes_mixed, places_mixed}
+use Rattle.digests.specs.Digest.{bare, bare_state, by_clock, clock_by, holder_mixed, names_mixed}
+use Rattle.digests.specs.Reads.{bare_by}
+use Rattle.digests.proofs.Common.{places_mixed}
 use Rattle.kernel.proofs.Holding.{slot-map}
-use Rattle.schedules.specs.Alike.{process_set_back, state_set_back}
+use Rattle.schedules.specs.Alike.{places_set_back, process_set_back, state_set_back}
 use Rattle.unixmodel.specs.Process as unix
 use Rattle.unixmodel.specs.State.{State}
 use Rattle.unixmodel.specs.Console.{Console}
@@ -66,14 +66,14 @@ memory-done h digest now n pages count is all =
     each-all (pages_step h.memory) n (length h.memory) (mix digest pages) now is (all ∙ count)
     ∙ ap (λ k. each (pages_step h.memory) (length h.memory) (mix digest k)) count
 
--- the process of a slot, by a clock that is set back
+-- the process of a slot, by a clock that is set back and without numbers
 abbrev timed : Option ℕ → unix.Process → unix.Process
 timed None p = p
-timed (Some ticks) p = process_set_back ticks p
+timed (Some ticks) p = bare (process_set_back ticks p)
 
 -- a process with its space
 spaced : (clock : Option ℕ) (h : SpaceView) (o : Option Process)
-    → option_map (with_space h) (option_map (process_by clock) o)
+    → option_map (with_space h) (option_map (bare_by clock) o)
     ≡ option_map (timed clock) (option_map (with_space h) o)
 spaced None h None = refl
 spaced None h (Some p) = refl
@@ -84,14 +84,21 @@ timed-none : (o : Option unix.Process) → o ≡ option_map (timed None) o
 timed-none None = refl
 timed-none (Some p) = refl
 
+timed-twice : (ticks : ℕ) (o : Option unix.Process)
+    → option_map bare (option_map (process_set_back ticks) o) ≡ option_map (timed (Some ticks)) o
+timed-twice ticks None = refl
+timed-twice ticks (Some p) = refl
+
 place-by : (clock : Option ℕ) (s : State) (i : ℕ)
     → process_at (by_clock clock s) i ≡ option_map (timed clock) (process_at s i)
-unfolding state_set_back
+unfolding bare_state state_set_back
 place-by None s i = timed-none (process_at s i)
-place-by (Some ticks) s i = slot-map (process_set_back ticks) s.places i
+place-by (Some ticks) s i = slot-map bare (places_set_back ticks s.places) i
+    ∙ ap (option_map bare) (slot-map (process_set_back ticks) s.places i)
+    ∙ timed-twice ticks (process_at s i)
 
 place-told : (clock : Option ℕ) (k : Kernel) (i digest : ℕ) (o : Option Process) → o ≡ slot (loaded k).places i
-    → place_mixed digest (option_map (with_space (view_at k.spaces i)) (option_map (process_by clock) o))
+    → place_mixed digest (option_map (with_space (view_at k.spaces i)) (option_map (bare_by clock) o))
     ≡ place_mixed digest (process_at (by_clock clock (state_of k)) i)
 place-told clock k i digest o is = ap (place_mixed digest)
     (spaced clock (view_at k.spaces i) o
@@ -116,15 +123,33 @@ space-there k sound i p is = sym (match-loaded k sound i) ∙ ap is_some (sym is
 
 pub place-done : (clock : Option ℕ) (k : Kernel) (i digest size bare now : ℕ) (p : Process)
     → Some p ≡ slot (loaded k).places i → size ≡ (view_at k.spaces i).size
-    → bare ≡ bare_mixed digest (with_space (record { memory = []; size = size }) (process_by clock p))
+    → bare ≡ bare_mixed digest (with_space (record { memory = []; size = size }) (bare_by clock p))
     → now ≡ memory_mixed bare (view_at k.spaces i).memory
     → now ≡ place_mixed digest (process_at (by_clock clock (state_of k)) i)
 place-done clock k i digest size bare now p is long told all =
     let h = view_at k.spaces i in
-    let q = process_by clock p in
+    let q = bare_by clock p in
     all ∙ ap (λ d. memory_mixed d h.memory)
     (told ∙ ap (λ (n : ℕ). bare_mixed digest (with_space (record { memory = []; size = n }) q)) long
     ∙ bare-same digest h q) ∙ place-told clock k i digest (Some p) is
+
+-- ---- a kernel's descriptors
+
+module _ (k : Kernel) (i digest : ℕ) where
+  holder-at : (o : Option Process) → o ≡ slot (loaded k).places i
+      → holder_mixed (state_of k) digest (option_map (with_space (view_at k.spaces i)) o)
+      ≡ holder_mixed (state_of k) digest (process_at (state_of k) i)
+  holder-at o is = ap (holder_mixed (state_of k) digest)
+      (ap (option_map (with_space (view_at k.spaces i))) is ∙ sym (process-state k i))
+
+  pub no-holder : None ≡ slot (loaded k).places i
+      → digest ≡ holder_mixed (state_of k) digest (process_at (state_of k) i)
+  no-holder is = holder-at None is
+
+  pub holder-done : (p : Process) (now : ℕ) → Some p ≡ slot (loaded k).places i
+      → now ≡ names_mixed (state_of k) digest p.descriptors
+      → now ≡ holder_mixed (state_of k) digest (process_at (state_of k) i)
+  holder-done p now is told = told ∙ holder-at (Some p) is
 
 -- ---- the console
 
@@ -158,7 +183,7 @@ rest-of t change (Some i) = (refl, refl)
 -- nor does a clock that is set back, except for the clock
 by-rest : (clock : Option ℕ) (s : State)
     → (clock_by clock s.ticks ∷ s.next_pid ∷ s.last ∷ status_number s.halted ∷ []) ≡ front_of (by_clock clock s)
-unfolding state_set_back
+unfolding bare_state state_set_back
 by-rest None s = refl
 by-rest (Some ticks) s = refl
 
@@ -170,14 +195,13 @@ front-state clock k = let rest =
     in ap₂ (λ n l. clock_by clock k.ticks ∷ n ∷ l ∷ status_number k.halted ∷ []) rest.1 rest.0
     ∙ by-rest clock (state_of k)
 
--- the rest says nothing of the clock
-pub whole-by : (clock : Option ℕ) (s : State) (front : ℕ)
-    → pipes_mixed (opens_mixed (places_mixed (console_mixed front s.console) (by_clock clock s)) s.opens) s.pipes
-    ≡ (let t = by_clock clock s in
-    pipes_mixed (opens_mixed (places_mixed (console_mixed front t.console) t) t.opens) t.pipes)
-unfolding state_set_back
-whole-by None s front = refl
-whole-by (Some ticks) s front = refl
+-- the console says nothing of the clock
+pub processes-by : (clock : Option ℕ) (s : State) (front : ℕ)
+    → places_mixed (console_mixed front s.console) (by_clock clock s)
+    ≡ (let t = by_clock clock s in places_mixed (console_mixed front t.console) t)
+unfolding bare_state state_set_back
+processes-by None s front = refl
+processes-by (Some ticks) s front = refl
 
 -- ---- files that go into a digest step by step
 

@@ -2,11 +2,13 @@
 -- other.
 -- What no event changes is left out (how many frames and blocks there are), and of devices their minor numbers, and of
 -- pages whether a fork had them.
-use Rattle.std.specs.Prelude.{Bool, List, None, Option, Some, [], bit_xor, drop, false, length, slice_get, suc, take}
-use Rattle.std.specs.Prelude.{true, zero, ℕ, ℤ, ◌%◌, ◌*◌, ◌++◌, ◌+◌, ◌/◌, ◌^◌, ◌∷◌}
+use Rattle.std.specs.Prelude.{Bool, List, None, Option, Some, [], bit_xor, drop, false, length, map}
+use Rattle.std.specs.Prelude.{option_map, replicate, slice_get, suc, take, true, zero, ℕ, ℤ, ◌%◌, ◌*◌, ◌++◌, ◌+◌}
+use Rattle.std.specs.Prelude.{◌/◌, ◌^◌, ◌∷◌, ◌≡◌}
 use Rattle.std.specs.Int.{cast_unsigned, div_ceil, w32}
 use Rattle.std.specs.List.{fold}
 use Rattle.byteorder.specs.Endian.{little_number}
+use Rattle.renumbering.specs.Renumbered.{IsRenumbered}
 use Rattle.schedules.specs.Alike.{mode_set_back, state_set_back}
 use Rattle.unixmodel.specs.Console.{Console}
 use Rattle.unixmodel.specs.declared.call.Call.{Call}
@@ -170,18 +172,70 @@ status_number (Some status) = cast_unsigned w32 status + 1
 abbrev pub front_of : State → List ℕ
 front_of s = s.ticks ∷ s.next_pid ∷ s.last ∷ status_number s.halted ∷ []
 
+-- everything except open files, pipes and files
+abbrev pub processes_digest : State → ℕ
+processes_digest s = places_mixed (console_mixed (mixed start (front_of s)) s.console) s
+
 -- everything except the files
 unfoldable pub digest_but_files : State → ℕ
-digest_but_files s = pipes_mixed
-    (opens_mixed (places_mixed (console_mixed (mixed start (front_of s)) s.console) s) s.opens) s.pipes
+digest_but_files s = pipes_mixed (opens_mixed (processes_digest s) s.opens) s.pipes
 
 unfoldable pub digest_of : State → ℕ
 digest_of s = files_mixed (digest_but_files s) s.files
 
--- the state with its clock set back to 0, where it says what the clock shows
+-- ---- without the numbers of open files and pipes
+
+-- an open file goes in as what it is open on, a pipe as its bytes
+abbrev pub on_mixed : List (Option (List ℕ)) → ℕ → Target → ℕ
+on_mixed pipes digest (OnNode number offset) = mixed digest (target_numbers (OnNode number offset))
+on_mixed pipes digest (OnPipe pipe ReadEnd) = pipe_mixed (mix digest 2) (slot pipes pipe)
+on_mixed pipes digest (OnPipe pipe WriteEnd) = pipe_mixed (mix digest 3) (slot pipes pipe)
+
+abbrev pub file_mixed : List (Option (List ℕ)) → ℕ → Option OpenFile → ℕ
+file_mixed pipes digest None = mix digest 0
+file_mixed pipes digest (Some f) = mixed (on_mixed pipes digest f.target) (flag f.readable ∷ flag f.writable ∷ [])
+
+-- a descriptor goes in as the open file that it names
+abbrev pub named_mixed : State → ℕ → Option ℕ → ℕ
+named_mixed s digest None = mix digest 0
+named_mixed s digest (Some id) = file_mixed s.pipes digest (slot s.opens id)
+
+abbrev pub names_mixed : State → ℕ → List (Option ℕ) → ℕ
+names_mixed s digest descriptors = fold (named_mixed s) digest descriptors
+
+abbrev pub holder_mixed : State → ℕ → Option Process → ℕ
+holder_mixed s digest None = digest
+holder_mixed s digest (Some p) = names_mixed s digest p.descriptors
+
+unfoldable pub holders_mixed : State → ℕ → ℕ
+holders_mixed s digest = each (λ d i. holder_mixed s d (process_at s i)) place_limit digest
+
+-- a process that names no open file
+abbrev pub bare : Process → Process
+bare p = record p { descriptors = replicate 16 None }
+
+-- the state without open files and pipes
+unfoldable pub bare_state : State → State
+bare_state s = record s { places = map (option_map bare) s.places; opens = []; pipes = [] }
+
+-- Everything except the files: of open files and pipes, what the processes' descriptors name, one by one. Which
+-- descriptors share an open file, and which open files a pipe, doesn't go in.
+unfoldable pub numberless_but_files : State → ℕ
+numberless_but_files s = holders_mixed s (processes_digest (bare_state s))
+
+unfoldable pub digest_but_numbers : State → ℕ
+digest_but_numbers s = files_mixed (numberless_but_files s) s.files
+
+-- the law: states that differ in the numbers of open files and pipes alone have the same
+abbrev pub NumbersStayOut : Type 0
+NumbersStayOut = (s t : State) → IsRenumbered s t → digest_but_numbers s ≡ digest_but_numbers t
+
+-- ---- which of the two
+
+-- the state with its clock set back to 0 and without numbers, where it says what the clock shows
 abbrev pub by_clock : Option ℕ → State → State
 by_clock None s = s
-by_clock (Some ticks) s = state_set_back ticks s
+by_clock (Some ticks) s = bare_state (state_set_back ticks s)
 
 abbrev pub mode_by : Option ℕ → Mode → Mode
 mode_by None mode = mode

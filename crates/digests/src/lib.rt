@@ -4,11 +4,13 @@
 #![tactic(auto)]
 
 mod mixing;
+mod named;
 mod nodes;
 mod opened;
 mod processes;
 mod whole;
 
+pub use named::numbers_stay_out;
 pub use nodes::mix_files;
 pub use processes::process_by;
 pub use whole::{digest_but_files, timeless_but_files};

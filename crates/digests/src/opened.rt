@@ -14,8 +14,8 @@ use kernel::Kernel;
 use spaces::PIPES;
 use sv39::Translate;
 
-// What an open file is open on goes in.
-fn mix_target(digest: u64, target: Target) -> u64
+/// What an open file is open on goes in.
+pub fn mix_target(digest: u64, target: Target) -> u64
     ensures { result ≡ mixed digest (target_numbers (target_of target)) }
 {
     match target {
@@ -59,8 +59,8 @@ pub fn mix_opens<D: BlockDev, T: Translate>(digest: u64, kernel: &Kernel<D, T>) 
     digest
 }
 
-// The pipe with a number goes in.
-fn mix_pipe<D: BlockDev, T: Translate>(digest: u64, kernel: &Kernel<D, T>, q: usize) -> u64
+/// The pipe with a number goes in.
+pub fn mix_pipe<D: BlockDev, T: Translate>(digest: u64, kernel: &Kernel<D, T>, q: usize) -> u64
     ensures { result ≡ pipe_mixed digest (slot (state_of kernel.now).pipes q) }
 {
     match kernel.pipe(q) {

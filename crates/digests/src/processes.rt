@@ -3,7 +3,7 @@ ghost use Rattle.std.specs.Prelude.{◌≡◌, [], slice_get, true};
 ghost use Rattle.digests.specs.Digest.{bare_mixed, descriptor_number, descriptors_mixed, memory_mixed, mixed};
 ghost use Rattle.digests.specs.Digest.{by_clock, mode_by, mode_numbers, page_or_same, place_mixed, places_mixed};
 ghost use Rattle.digests.specs.Digest.{waiting_number};
-ghost use Rattle.digests.specs.Reads.{process_by};
+ghost use Rattle.digests.specs.Reads.{bare_by, process_by};
 ghost use Rattle.schedules.specs.Alike.{set_back};
 ghost use Rattle.kernel.specs.Kernel.{state_of};
 ghost use Rattle.kernel.specs.Whole.{with_space};
@@ -18,6 +18,9 @@ use spaces::Spaces;
 use sv39::Translate;
 use unixmodel::call::Call;
 use unixmodel::process::{Mode, Pending};
+
+/// How many descriptors a process has.
+const DESCRIPTORS: usize = 16;
 
 // The number of a call that can wait.
 fn waiting_number(call: Call) -> u64
@@ -153,7 +156,20 @@ pub fn process_by(clock: Option<u32>, process: Process) -> Process
     }
 }
 
-// The process of a slot goes in, by a clock that is set back.
+// The same without the numbers of open files.
+fn bare_by(clock: Option<u32>, process: Process) -> Process
+    ensures { result ≡ bare_by clock process }
+{
+    let Some(_) = clock else {
+        return process;
+    };
+    Process {
+        descriptors: [None; DESCRIPTORS],
+        ..process_by(clock, process)
+    }
+}
+
+// The process of a slot goes in, by a clock that is set back and without the numbers of open files.
 fn mix_place<D: BlockDev, T: Translate>(
     digest: u64,
     kernel: &Kernel<D, T>,
@@ -167,13 +183,14 @@ fn mix_place<D: BlockDev, T: Translate>(
         Some(process) => {
             kernel.is_sound();
             let spaces = kernel.spaces();
-            let process = process_by(clock, process);
+            let process = bare_by(clock, process);
             mix_memory(mix_process(digest, &process, spaces.size(at)), spaces, at)
         }
     }
 }
 
-/// All processes go in, by a clock that is set back, where it says what the clock shows.
+/// All processes go in, by a clock that is set back and without the numbers of open files, where it says what the
+/// clock shows.
 pub fn mix_places<D: BlockDev, T: Translate>(
     digest: u64,
     kernel: &Kernel<D, T>,

@@ -1,10 +1,12 @@
 //! The digest of everything except the files.
 ghost use Rattle.std.specs.Prelude.{◌≡◌, ◌∷◌, []};
-ghost use Rattle.digests.specs.Digest.{by_clock, clock_by, digest_but_files, front_of, mixed, start, status_number};
+ghost use Rattle.digests.specs.Digest.{by_clock, clock_by, digest_but_files, front_of, mixed, numberless_but_files};
+ghost use Rattle.digests.specs.Digest.{processes_digest, start, status_number};
 ghost use Rattle.schedules.specs.Alike.{timeless};
 ghost use Rattle.kernel.specs.Kernel.{state_of};
 
 use crate::mixing::mix_numbers;
+use crate::named::mix_holders;
 use crate::opened::{mix_console, mix_opens, mix_pipes};
 use crate::processes::mix_places;
 use blockdev::BlockDev;
@@ -59,25 +61,28 @@ fn mix_front<D: BlockDev, T: Translate>(kernel: &Kernel<D, T>, clock: Option<u32
     )
 }
 
-// The digest of a state, except its files, by a clock that is set back, where it says what the clock shows.
+// The digest of a state, except open files, pipes and files, by a clock that is set back and without numbers, where it
+// says what the clock shows.
 fn digest_by<D: BlockDev, T: Translate>(kernel: &Kernel<D, T>, clock: Option<u32>) -> u64
-    ensures { result ≡ digest_but_files (by_clock clock (state_of kernel.now)) }
+    ensures { result ≡ processes_digest (by_clock clock (state_of kernel.now)) }
 {
     let digest = mix_console(mix_front(kernel, clock), kernel.console());
-    let digest = mix_opens(mix_places(digest, kernel, clock), kernel);
-    mix_pipes(digest, kernel)
+    mix_places(digest, kernel, clock)
 }
 
 /// The digest of a state, except its files: they go in by `mix_files`.
 pub fn digest_but_files<D: BlockDev, T: Translate>(kernel: &Kernel<D, T>) -> u64
     ensures { result ≡ digest_but_files (state_of kernel.now) }
 {
-    digest_by(kernel, None)
+    let digest = mix_opens(digest_by(kernel, None), kernel);
+    mix_pipes(digest, kernel)
 }
 
-/// The same by a clock that is set back to 0: of the clock it has only for how long each sleeper has slept.
+/// The same by a clock that is set back to 0, and without the numbers of open files and pipes: of the clock it has only
+/// for how long each sleeper has slept, of each descriptor what it names.
 pub fn timeless_but_files<D: BlockDev, T: Translate>(kernel: &Kernel<D, T>) -> u64
-    ensures { result ≡ digest_but_files (timeless (state_of kernel.now)) }
+    ensures { result ≡ numberless_but_files (timeless (state_of kernel.now)) }
 {
-    digest_by(kernel, Some(kernel.ticks()))
+    let digest = digest_by(kernel, Some(kernel.ticks()));
+    mix_holders(digest, kernel)
 }

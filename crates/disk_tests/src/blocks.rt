@@ -110,8 +110,9 @@ fn tells_that_no_block_is_free(rt: HostRuntime) {
 #[test]
 fn takes_the_lowest_or_tells_a_failure(rt: HostRuntime) {
     assert!(rt; use_small(&rt, 7, u64::MAX) == (Ok(TAKEN), false));
-    for good in 0..14 {
-        let want = if good < 10 {
+    // each of five blocks is written whole before it is read, so that it takes one access
+    for good in 0..9 {
+        let want = if good < 5 {
             (Err(DeviceFault), true)
         } else {
             (Ok(TAKEN), false)

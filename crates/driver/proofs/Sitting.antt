@@ -13,7 +13,7 @@ use Rattle.calls.specs.Steps.{IsBusyFor}
 use Rattle.calls.specs.declared.halt.Halt.{Halt}
 use Rattle.driver.proofs.Pacing.{off-stays, paced-off}
 use Rattle.driver.proofs.Scripting.{begins-then, follows-then}
-use Rattle.driver.proofs.Walking.{IsSoFar, far-all, far-flushed, far-gives, far-none, far-state, far-then}
+use Rattle.driver.proofs.Walking.{IsSoFar, far-all, far-flushed, far-gives, far-kept, far-none, far-state, far-then}
 use Rattle.driver.specs.Driven.{Printed, Serves, halts, spot_at}
 use Rattle.driver.specs.Goals.{GoesOn, IsOver}
 use Rattle.driver.specs.Sessions.{GaveFirst, IsGivenAll, IsSession, answered, goes_on_with, is_end, mood_of, moved}
@@ -26,7 +26,7 @@ use Rattle.driver.specs.declared.terminal.Mood.TheVariants as mood
 use Rattle.driver.specs.declared.wanted.Walked.{Walked}
 use Rattle.driver.specs.declared.wanted.Wanted.TheVariants.{Keys, Steps, Ticks}
 use Rattle.events.specs.Paced.{Begins, paced}
-use Rattle.events.specs.Records.{Kept}
+use Rattle.events.specs.Records.{Kept, Records}
 use Rattle.kernel.specs.Idle.{is_idle}
 use Rattle.machine.proofs.RunLemmas.{Rises-later}
 use Rattle.machine.specs.View.{IsUp, View}
@@ -303,6 +303,12 @@ module _ {quantum : ℕ} {first now : View} {from mid : Printed} {kept keeps : O
     off = h.off;
     count = h.count;
   })
+
+  -- the keyboard is asked
+  pub sits-asked : {last : Option Kept} → Records keeps last []
+      → Sits quantum gives later first now from mid kept last clock moves
+  sits-asked {last} asked =
+      record { gave = h.gave; first = h.first; far = far-kept h.far asked; off = h.off; count = h.count }
 
   sits-ends : (from.failed ≤ mid.failed → Rises from.failed mid.failed)
       → IsSession quantum gives later first now from mid kept keeps (Ok tt)

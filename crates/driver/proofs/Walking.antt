@@ -81,6 +81,15 @@ module _ {xs : List Event} {old now : View} {from mid : Printed} {kept keeps : O
       → IsSoFar xs old same_now from to kept same_keeps
   far-through a b keep later = rw (a, b) (far-flushed keep later)
 
+  -- the record is written out
+  pub far-kept : {last : Option Kept} → Records keeps last [] → IsSoFar xs old now from mid kept last
+  far-kept {last} asked = record {
+    so_far = h.so_far;
+    records = subst (λ es. Records kept last es) (append-nil xs)
+        (records-then kept keeps last xs [] h.records asked);
+    later = h.later;
+  }
+
   -- these are all
   pub far-all : (u : Unit {0}) → Gives xs old now from mid kept keeps (Ok u)
   far-all u = record { records = h.records; runs = (h.so_far.began, h.so_far.done); later = h.later }

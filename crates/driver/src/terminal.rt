@@ -35,17 +35,18 @@ pub enum Mood {
 
 /// A keyboard, and a record of what the machine is given.
 pub trait Terminal: Record {
-    ghost use Rattle.std.specs.Prelude.{List, Option, option_map, ◌∷◌, ◌≡◌};
+    ghost use Rattle.std.specs.Prelude.{List, Option, [], option_map, ◌∷◌, ◌≡◌};
+    ghost use Rattle.events.specs.Records.{Records};
     ghost use Rattle.driver.specs.declared.terminal.Given.{Given};
 
     /// What the keyboard will give, where that is known.
     ghost gives: { Self → Option (List Given) };
 
     /// What was typed since the keyboard was last asked. It may wait for that, but only a short time while the machine
-    /// is busy.
+    /// is busy. No event is recorded meanwhile; a record that may lose some may be written out, and be lost.
     fn ask(&mut self, mood: Mood) -> Given
         ensures gives { gives self.old ≡ option_map (λ rest. result ∷ rest) (gives self.new) }
-        ensures kept { Self.kept self.new ≡ Self.kept self.old };
+        ensures kept { Records (Self.kept self.old) (Self.kept self.new) [] };
 
     /// Shows the processes of the machine, as the keyboard asked for.
     fn show<D: BlockDev, T: Translate>(&mut self, machine: &Machine<D, T>)

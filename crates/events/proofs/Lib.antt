@@ -5,3 +5,5 @@ pub mod RowsRead
 pub mod Keeping
 pub mod Recording
 pub mod Scripting
+mod Wording
+mod Acting

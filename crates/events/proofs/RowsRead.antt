@@ -1,7 +1,7 @@
 -- What the rows of a transcript say, read as the lines of a script.
 use Rattle.std.proofs.Common.{◌≡◌, ◌∙◌, ◌+◌, ◌*◌, ◌<◌, ◌≤◌, ◌++◌, ◌%◌, ◌/◌, ℕ, List, [], ◌∷◌, refl, length, map, subst}
 use Rattle.std.proofs.Common.{sym, ap, arith, false, true, append_assoc, append-nil, get_or, drop, replicate, Some}
-use Rattle.std.proofs.Common.{None, Option, Bool, inl, inr}
+use Rattle.std.proofs.Common.{Bool, inl, inr}
 use Rattle.std.specs.Prelude.{◌==◌, flat_map, slice_index, suc, zero, ⊤, IfSome, ◌⊎◌}
 use Rattle.std.specs.Fmt.{decimal, digit_glyph}
 use Rattle.std.specs.List.{All, slice_index_or}

@@ -9,3 +9,5 @@ pub mod Rows
 pub mod Records
 pub mod Transcripts
 pub mod Paced
+pub mod Words
+pub mod PlayTexts

@@ -28,6 +28,3 @@ pub use record::{Record, Unrecorded};
 pub use row::{MOST_KEYS, Row};
 pub use script::{Command, bytes_of, count, pair_value};
 pub use transcript::Transcript;
-
-#[cfg(test)]
-mod tests;

@@ -43,8 +43,8 @@ pub trait FromLine<'a>: Sized + Drop {
         ensures { IfOk result (λ found. MatchOption found ((said : Self) → ¬ (says line.now said)) (says line.now)) };
 }
 
-// The lines of a text, each ended by LF except the last.
-fn split_lines<'a>(alloc: Global, text: &'a [u8]) -> Result<Vec<&'a [u8]>, AllocError>
+/// The lines of a text, each ended by LF except the last.
+pub(crate) fn split_lines<'a>(alloc: Global, text: &'a [u8]) -> Result<Vec<&'a [u8]>, AllocError>
     ensures { IfOk result (λ lines. map (λ line. line.now) lines.items ≡ lines_of text.now) }
 {
     text.split(|byte| *byte == b'\n').collect(alloc)

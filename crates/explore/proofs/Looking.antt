@@ -254,11 +254,11 @@ picked-again s tidy awake h = by (shown_process s h.pid) refl h.shown
         let next_runner = found-pid (next s Tick).state (turn (next s Tick).state) h.pid h.picked in
         let mine = shown-pid s h.pid q is in
         let place : runner.0 ≡ mine.0 =
-        tidy.apart runner.0 mine.0 runner.1 q runner.3 mine.1 (runner.4 ∙ sym mine.2) in
+        tidy.table.apart runner.0 mine.0 runner.1 q runner.3 mine.1 (runner.4 ∙ sym mine.2) in
         let same : runner.1 ≡ q =
         same-some runner.1 q (sym runner.3 ∙ ap (process_at s) place ∙ mine.1) in
         let alive : runner.1.killed ≡ false =
         ap (λ (p : Process). p.killed) same ∙ ap (λ (n : Seen). n.killed) (same-some (seen_of q) h.seen shown)
         ∙ h.alive in
-        given-back s tidy runner.0 runner.1 runner.2 runner.3 alive (sym (sleeps-same s) ∙ awake) next_runner.0
+        given-back s tidy.table runner.0 runner.1 runner.2 runner.3 alive (sym (sleeps-same s) ∙ awake) next_runner.0
         next_runner.1 next_runner.2 next_runner.3 (next_runner.4 ∙ sym runner.4)

@@ -2,6 +2,7 @@
 ghost use Rattle.std.specs.Prelude.{◌≡◌, ◌++◌, ◌∷◌, [], IfOk, IfSome, None, false, true};
 ghost use Rattle.std.specs.Option.{ForSome};
 ghost use Rattle.explore.specs.Along.{GoesBy, IsAt, IsNoUptime, IsPickedAgain, LeadsOn, status_from};
+ghost use Rattle.explore.specs.Tidy.{IsTidy-prop};
 ghost use Rattle.machine.specs.View.{IsUp};
 ghost use Rattle.orders.specs.Paths.{event_of, events_of, piece_events, pieces_events, steps};
 ghost use Rattle.orders.specs.Tidy.{IsTidy};
@@ -28,7 +29,7 @@ pub struct Along<'a, D: Duplicate, T: Translate> {
     // The path that it went, where it goes on from there.
     path: Option<Path>,
     ghost is_there: { ForSome path (IsAt first.now machine printed.inner.items) },
-    ghost is_tidy: { IsTidy first.now.state },
+    ghost is_tidy: { IsTidy first.now.state } by { IsTidy-prop first.now.state },
 }
 
 // Why a machine stopped: process 1 ended with a status, or it failed.
@@ -193,7 +194,7 @@ fn is_picked_again<D: Duplicate, T: Translate>(machine: &Machine<D, T>) -> bool
 }
 
 impl<'a, D: Duplicate, T: Translate> Along<'a, D, T> {
-    /// At the beginning, with a machine of the same size, whatever its state is. The first one's table is as at each
+    /// At the beginning, with a machine of the same size, whatever its state is. The first one's tables are as at each
     /// start and after each run (`tables_stay_tidy`).
     pub fn new(alloc: Global, first: &'a Machine<D, T>, machine: Machine<D, T>) -> Self
         requires { IsTidy first.now.state }
@@ -320,6 +321,8 @@ impl<'a, D: Duplicate, T: Translate> Walker for Along<'a, D, T> {
     fn has_clock(&self) {
         let _ticks = self.machine.ticks();
     }
+
+    fn names_are_there(&self) {}
 
     fn digest(&mut self) -> Result<u64, Trouble> {
         let path = self.path.take();

@@ -15,6 +15,7 @@ use commandline::Explore;
 use explore::{Bounds, Task, Trouble, tables_stay_tidy};
 use host::{Failure, Front, Host, disk_of, make_folder, print, read, read_image, tell};
 use machine::boot;
+use orders::nobody_sleeps_at_a_start;
 use run_commands::script_of;
 use std::alloc::Global;
 use std::io::Write;
@@ -43,6 +44,7 @@ fn boot_machine<'a>(
     ensures tidy { IfOk result (λ machine. IsTidy machine.state) }
 {
     tables_stay_tidy();
+    nobody_sleeps_at_a_start();
     match boot(
         alloc,
         disk_of(image)?,

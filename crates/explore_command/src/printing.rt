@@ -120,14 +120,21 @@ impl<'a> Telling<'a> {
         ends
     }
 
+    // The schedules under which there are these outcomes.
+    fn schedules(&self) -> &'static str {
+        if !self.searched.is_whole() || self.shown.is_empty() {
+            "the schedules that were tried"
+        } else if self.searched.missed.late {
+            "all schedules of fewer than 2^32 ticks"
+        } else {
+            "all schedules"
+        }
+    }
+
     // Writes how many outcomes there are, and under which schedules.
     fn write_head<W: fmt::Write>(&self, f: &mut fmt::Formatter<W>) -> fmt::Result {
         let outcomes = Count(self.shown.len() as u64, "outcome");
-        let schedules = if self.searched.is_whole() && !self.shown.is_empty() {
-            "all schedules"
-        } else {
-            "the schedules that were tried"
-        };
+        let schedules = self.schedules();
         let states = Count(self.searched.states as u64, "state");
         let ends = Count(self.ends(), "end");
         write!(f, "{outcomes} under {schedules}: {states}, {ends}")?;
@@ -193,7 +200,7 @@ impl<'a> Telling<'a> {
         if missed.uptime {
             f.write_str("not tried: every time at which a process may call uptime\n")?;
         }
-        if missed.late {
+        if missed.late && !self.searched.is_whole() {
             f.write_str("not tried: ticks where nobody runs and all sleeps are over\n")?;
         }
         if let Some(endless) = self.searched.endless {

@@ -1,7 +1,7 @@
 //! The search, over machines that boot from an image.
 ghost use Rattle.std.specs.Prelude.{◌≡◌, IfOk, true};
 ghost use Rattle.explore_command.specs.Explored.{IsSearched};
-ghost use Rattle.orders.specs.Missed.{is_nothing};
+ghost use Rattle.orders.specs.Missed.{is_late_alone};
 ghost use Rattle.orders.specs.Tidy.{IsTidy};
 
 use crate::watched::{Endless, Watched};
@@ -61,10 +61,12 @@ pub(crate) fn search<P: Progress>(
 }
 
 impl Searched {
-    /// Whether nothing was left out, and no process was seen to run on for ever.
+    /// Whether nothing was left out but late timer interrupts, and no process was seen to run on for ever.
     pub(crate) fn is_whole(&self) -> bool
-        ensures { result ≡ true → is_nothing self.now.missed ≡ true }
+        ensures { result ≡ true → is_late_alone self.now.missed ≡ true }
     {
-        self.missed.is_nothing() && self.endless.is_none()
+        let missed = self.missed;
+        let is_short = !(missed.ticks || missed.states || missed.uptime || missed.stopped);
+        is_short && self.endless.is_none()
     }
 }

@@ -7,7 +7,7 @@ ghost use Rattle.explore_command.specs.Verdicts.{status_of};
 pub(crate) struct Verdict {
     /// How many outcomes there are.
     pub(crate) outcomes: usize,
-    /// Whether nothing was left out.
+    /// Whether nothing was left out but late timer interrupts.
     pub(crate) is_whole: bool,
     /// Whether each outcome is the one that is wanted, if one is.
     pub(crate) is_wanted: bool,

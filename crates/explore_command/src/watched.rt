@@ -110,6 +110,10 @@ impl<'a, D: Duplicate, T: Translate> Walker for Watched<'a, D, T> {
         self.along.has_clock();
     }
 
+    fn names_are_there(&self) {
+        self.along.names_are_there();
+    }
+
     fn digest(&mut self) -> Result<u64, Trouble> {
         self.along.digest()
     }

@@ -38,6 +38,3 @@ pub use messages::message;
 pub use passes::{Expanded, Expansion, expand};
 pub use reader::{MOST_BYTES, read};
 pub use source::{File, Line, Place, Program, Row, Sources, Status};
-
-#[cfg(test)]
-mod tests;

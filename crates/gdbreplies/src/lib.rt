@@ -12,6 +12,3 @@ pub use documents::{
 pub use registers::{push_description, push_register, push_registers};
 pub use stops::{Signal, Stop, push_console, push_end, push_error, push_exec, push_stop};
 pub use threads::{push_current, push_process, push_thread, push_threads};
-
-#[cfg(test)]
-mod tests;

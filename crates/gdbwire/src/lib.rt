@@ -17,6 +17,3 @@ pub use packets::{
     thread_in,
 };
 pub use reader::{Heard, MOST, Reader};
-
-#[cfg(test)]
-mod tests;

@@ -132,14 +132,17 @@ pub trait Host {
     /// Reads from standard input into the front of `bytes`, and returns how many they are: 0 at its end. `None` is
     /// nothing so far, from a terminal that waits only a moment, and from an input that doesn't wait.
     fn type_in(&mut self, bytes: &mut [u8], _is_terminal: bool) -> Result<Option<usize>, HostFault>
-        ensures { IfOk result (λ typed. IfSome typed (λ count. count ≤ length bytes.old)) }
+        ensures count { IfOk result (λ typed. IfSome typed (λ count. count ≤ length bytes.old)) }
+        ensures same { files self.new ≡ files self.old }
     {
         let _ = bytes.len();
         Ok(Some(0))
     }
 
     /// Whether a second has passed since standard input was read, so that it is read while the machine works, too.
-    fn is_due(&mut self) -> bool {
+    fn is_due(&mut self) -> bool
+        ensures { files self.new ≡ files self.old }
+    {
         true
     }
 

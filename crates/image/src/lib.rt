@@ -3,6 +3,6 @@
 #![tactic(auto)]
 
 pub use imagecheck::{ImageFault, Summary, check, check1};
-pub use imagemake::{Entry, MakeFault, Manifest, Thing, make};
+pub use imagemake::{Entry, MakeFault, Maker, Manifest, Thing, make};
 pub use imagerules::image_denotes_one_list;
 pub use migrate::{MigrateFault, migrate};

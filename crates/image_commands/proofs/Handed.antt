@@ -15,12 +15,12 @@ use Rattle.commandline.specs.declared.jobs.Put.{Put}
 use Rattle.host.specs.Files.{Holds, HoldsFront, HostFiles, IsFront, Writes, with_file}
 use Rattle.host.specs.Fronts.{IsWhole}
 use Rattle.host.specs.declared.host.Front.{Front}
-use Rattle.image_commands.specs.Entries.{IsManifestOf}
+use Rattle.image_commands.specs.Entries.{HasManifest}
 use Rattle.image_commands.specs.Handed.{AssemblesIn, Checks, GetsIn, HoldsDisk, HoldsFile, IsRead, IsUsed, Known}
 use Rattle.image_commands.specs.Handed.{Lists, MakesIn, MigratesIn, PutsIn}
 use Rattle.imagecheck.specs.declared.rules.Summary.{Summary}
-use Rattle.imagemake.specs.Making.{MakesImage, meaning}
-use Rattle.imagemake.specs.declared.manifest.Entry.{Entry}
+use Rattle.imagemake.specs.Makers.{IsImageOf}
+use Rattle.imagemake.specs.declared.maker.Maker.{Maker}
 use Rattle.imagerules.specs.Content.{image_of}
 use Rattle.imagerules.proofs.Spelling.{image_of-blocks}
 use Rattle.image_files.specs.Listed.{IsDirectoryOf}
@@ -159,18 +159,20 @@ migrates-in words old made front most held new fronts read source denotes writes
       handed = refl;
     })
 
-pub makes-in : (words : Mkfs) (text : List ℕ) (lines : List Line) (entries : List Entry) (image : List ℕ)
-    (held new : Option HostFiles) → AreSaid IsLine (lines_of text) lines → IsManifestOf words.size held lines entries
-    → MakesImage (meaning entries) words.size words.inodes image → Writes words.image.now image held new
-    → Known (MakesIn words text) held new
-makes-in words text lines entries image held new said all made writes =
-    handed (MakesIn words text) words.image.now image held new writes (λ files known. record {
+pub makes-in : (words : Mkfs) (text : List ℕ) (lines : List Line) (maker : Maker) (image : List ℕ)
+    (held new : Option HostFiles) → AreSaid IsLine (lines_of text) lines
+    → HasManifest words.size words.inodes held lines maker → IsImageOf maker image
+    → Writes words.image.now image held new → Known (MakesIn words text) held new
+makes-in words text lines maker image held new said has is writes =
+    handed (MakesIn words text) words.image.now image held new writes (λ files known.
+    let here = subst (λ h. HasManifest words.size words.inodes h lines maker) known has in
+    record {
       lines = lines;
       said = said;
-      entries = entries;
-      all = subst (λ h. IsManifestOf words.size h lines entries) known all;
+      entries = here.entries;
+      all = here.all;
       image = image;
-      made = made;
+      made = is _ _ here.entries here.has;
       handed = refl;
     })
 

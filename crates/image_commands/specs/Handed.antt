@@ -11,8 +11,7 @@ use Rattle.commandline.specs.declared.jobs.Put.{Put}
 use Rattle.host.specs.Files.{HostFiles, with_file}
 use Rattle.image_commands.specs.Entries.{IsManifestOf}
 use Rattle.imagecheck.specs.declared.rules.Summary.{Summary}
-use Rattle.imagemake.specs.Making.{MakesImage, meaning}
-use Rattle.imagemake.specs.declared.manifest.Entry.{Entry}
+use Rattle.imagemake.specs.Making.{MakesImage}
 use Rattle.events.specs.Lines.{AreSaid, lines_of}
 use Rattle.events.specs.Manifests.{IsLine}
 use Rattle.events.specs.declared.manifest.Line.{Line}
@@ -21,6 +20,7 @@ use Rattle.image_files.specs.Opened.{IsFileOf, IsPut}
 use Rattle.unixmodel.specs.Assembly as the
 use Rattle.unixmodel.specs.Files.{Files}
 use Rattle.unixmodel.specs.Image.{Denotes, DenotesSmall, named_blocks, numbers_in_use}
+use Rattle.unixmodel.specs.Manifest.{ManifestEntry}
 
 -- what holds of a host's files before and after, where it is known what they hold
 abbrev pub Known : (HostFiles → HostFiles → Type 0) → Option HostFiles → Option HostFiles → Type 0
@@ -67,10 +67,10 @@ pub record PutsIn (words : Put) (old new : HostFiles) : Type 0 where
 pub record MakesIn (words : Mkfs) (text : List ℕ) (old new : HostFiles) : Type 0 where
   pub lines : List Line
   pub said : AreSaid IsLine (lines_of text) lines
-  pub entries : List Entry
+  pub entries : List ManifestEntry
   pub all : IsManifestOf words.size (Some old) lines entries
   pub image : List ℕ
-  pub made : MakesImage (meaning entries) words.size words.inodes image
+  pub made : MakesImage entries words.size words.inodes image
   pub handed : new ≡ with_file old words.image.now image
 
 -- `migrate`: the new image denotes the files of the old one

@@ -1,11 +1,13 @@
 //! Makes, checks and lists disk images.
-ghost use Rattle.std.specs.Prelude.{◌≡◌, ◌<◌, ◌≤◌, IfOk, IsErrOf, OnOk, length, vec_len};
+ghost use Rattle.std.specs.Prelude.{◌≡◌, ◌<◌, ◌≤◌, IfOk, IsErrOf, IsOkAnd, OnOk, length, vec_len};
 ghost use Rattle.unixmodel.specs.Files.{Files};
 ghost use Rattle.unixmodel.specs.Formats.{small};
 ghost use Rattle.unixmodel.specs.Image.{Denotes, DenotesSmall, named_blocks, numbers_in_use};
 ghost use Rattle.imagecheck.specs.Faults.{Tells};
 ghost use Rattle.imagecheck.specs.declared.ImageFault.{ImageFault};
-ghost use Rattle.image_commands.specs.Entries.{AreFirst, IsEntryOf, IsManifestOf, count_in, space_of};
+ghost use Rattle.imagemake.specs.Makers.{Adds, IsMaking};
+ghost use Rattle.imagemake.specs.Making.{entry_at, thing_of};
+ghost use Rattle.image_commands.specs.Entries.{AreFirst, HasManifest, IsThingOf, path_of, space_of};
 ghost use Rattle.blockdev.specs.Blocks.{blocks_of};
 ghost use Rattle.imagerules.specs.Content.{image_of};
 ghost use Rattle.image_commands.specs.Handed.{Checks, Known, Lists, MakesIn, MigratesIn};
@@ -19,10 +21,10 @@ use blockdev::{BLOCK_SIZE, MemDisk};
 use commandline::{Check, Ls, Migrate, Mkfs};
 use events::{Line, TextFault, parse};
 use host::{Failure, Host, bytes_of, read_front, write};
-use image::{Entry, Manifest, MigrateFault, Summary, Thing};
+use image::{MakeFault, Maker, MigrateFault, Summary, Thing};
 use image_files::{ListingFault, write_directory, write_tree};
 use layout::{Format, LONGEST, MOST_BLOCKS};
-use std::alloc::{AllocError, Global};
+use std::alloc::Global;
 use std::io::Write;
 
 // What the lines of a manifest say; the text has to be one.
@@ -51,44 +53,24 @@ fn host_file<'a, H: Host>(host: &mut H, name: &'a [u8], most: usize) -> Result<V
     }
 }
 
-// An entry of this path.
-fn entry(alloc: Global, path: &[u8], thing: Thing) -> Result<Entry, AllocError>
-    ensures path { IfOk result (λ e. e.path.items ≡ path.now) }
-    ensures thing { IfOk result (λ e. e.thing ≡ thing) }
+// The path that a line names.
+fn path_of<'a>(line: &Line<'a>) -> &'a [u8]
+    ensures { result.now ≡ path_of line.now }
 {
-    let mut bytes = Vec::new(alloc);
-    bytes.extend_from_slice(path)?;
-    Ok(Entry { path: bytes, thing })
-}
-
-// The entry that a line asks for, with that many bytes of a host's file at most.
-fn entry_of<'a, H: Host>(
-    alloc: Global,
-    line: &Line<'a>,
-    host: &mut H,
-    most: usize,
-) -> Result<Entry, Failure<'a>>
-    ensures entry { IfOk result (IsEntryOf most (H.files host.old) line.now) }
-    ensures same { H.files host.new ≡ H.files host.old }
-{
-    let made = match *line {
-        Line::Directory(path) => entry(alloc, path, Thing::Directory),
-        Line::File(path, name) => entry(alloc, path, Thing::File(host_file(host, name, most)?)),
-        Line::Device(path, major, minor) => entry(alloc, path, Thing::Device { major, minor }),
-    };
-    match made {
-        Ok(entry) => Ok(entry),
-        Err(_) => Err(Failure::NoMemory),
+    match *line {
+        Line::Directory(path) | Line::File(path, _) | Line::Device(path, _, _) => path,
     }
 }
 
-// How many bytes of a file an entry has.
-fn bytes_in(entry: &Entry) -> usize
-    ensures { result ≡ count_in entry.now.thing }
+// What a line asks for, with that many bytes of a host's file at most.
+fn thing_from<'a, H: Host>(line: &Line<'a>, host: &mut H, most: usize) -> Result<Thing, Failure<'a>>
+    ensures thing { IfOk result (λ thing. IsThingOf most (H.files host.old) line.now (thing_of thing)) }
+    ensures same { H.files host.new ≡ H.files host.old }
 {
-    match &entry.thing {
-        Thing::File(bytes) => bytes.len(),
-        Thing::Directory | Thing::Device { .. } => 0,
+    match *line {
+        Line::Directory(_) => Ok(Thing::Directory),
+        Line::File(_, name) => Ok(Thing::File(host_file(host, name, most)?)),
+        Line::Device(_, major, minor) => Ok(Thing::Device { major, minor }),
     }
 }
 
@@ -104,36 +86,44 @@ fn space_of(size: u32) -> usize
     }
 }
 
-// The manifest that the lines say, for an image of this size. All of the host's files are read, in their order, each
-// to a byte more than a file or all blocks hold. No entry is kept after the one with which the files are more than
-// all blocks hold: the making ends there at the latest.
-fn manifest_of<'a, H: Host>(
+// An image with a thing more at a path, if it was made so far.
+fn with<'a>(
+    making: Result<Maker<'a>, MakeFault>,
+    path: &'a [u8],
+    thing: &Thing,
+) -> Result<Maker<'a>, MakeFault>
+    requires { IfOk making IsMaking }
+    ensures { IfOk result (λ new. IsOkAnd making.entry (λ old. Adds old (entry_at path.now thing.now) new)) }
+{
+    making?.with(path, thing)
+}
+
+// An image of the entries that the lines ask for. All of the host's files are read, in their order, each to a byte more
+// than a file or all blocks hold, and none is kept beside the next; what is wrong with an entry is said after all are.
+fn maker_of<'a, H: Host>(
     alloc: Global,
     lines: &[Line<'a>],
     size: u32,
+    inodes: u32,
     host: &mut H,
-) -> Result<Manifest, Failure<'a>>
-    ensures entries { IfOk result (λ made. IsManifestOf size (H.files host.old) lines.now made.entries.items) }
+) -> Result<Maker<'a>, Failure<'a>>
+    ensures entries { IfOk result (HasManifest size inodes (H.files host.old) lines.now) }
     ensures same { H.files host.new ≡ H.files host.old }
 {
-    let mut entries = Vec::new(alloc);
-    let space = space_of(size);
-    let most = LONGEST.min(space) + 1;
-    let mut room = Some(space);
+    let most = LONGEST.min(space_of(size)) + 1;
+    let mut making = Maker::new(alloc, size, inodes);
     for line in lines {
-        let entry = entry_of(alloc, line, host, most)?;
-        if let Some(left) = room {
-            room = left.checked_sub(bytes_in(&entry));
-            if entries.push(entry).is_err() {
-                return Err(Failure::NoMemory);
-            }
-        }
+        let thing = thing_from(line, host, most)?;
+        making = with(making, path_of(line), &thing);
     }
-    Ok(Manifest { entries })
+    match making {
+        Ok(maker) => Ok(maker),
+        Err(fault) => Err(Failure::Make(fault)),
+    }
 }
 
-/// The command `mkfs`, for a manifest of this text. The text is read whole before any of the host's
-/// files, and these before anything is made.
+/// The command `mkfs`, for a manifest of this text. The text is read whole before any of the host's files; of these one
+/// after another is held beside the image.
 pub fn mkfs<'a, H: Host>(
     alloc: Global,
     words: Mkfs<'a>,
@@ -143,12 +133,11 @@ pub fn mkfs<'a, H: Host>(
     ensures { OnOk result (Known (MakesIn words.entry text.now) (H.files host.old) (H.files host.new)) }
 {
     let lines = lines_of(alloc, words.manifest, text)?;
-    let manifest = manifest_of(alloc, lines.as_slice(), words.size, host)?;
-    let image = match image::make(alloc, &manifest, words.size, words.inodes) {
-        Ok(image) => image,
-        Err(fault) => return Err(Failure::Make(fault)),
-    };
-    write(host, words.image, image.as_slice())
+    let maker = maker_of(alloc, lines.as_slice(), words.size, words.inodes, host)?;
+    match maker.into_image() {
+        Ok(image) => write(host, words.image, image.as_slice()),
+        Err(fault) => Err(Failure::Make(fault)),
+    }
 }
 
 /// The command `check`.

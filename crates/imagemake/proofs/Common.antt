@@ -72,7 +72,7 @@ pub use Rattle.imagemake.specs.Begins.{MakesEntries}
 pub use Rattle.imagemake.specs.Begun.{IsBegun, IsListed}
 pub use Rattle.imagemake.specs.Made.{LeadsTo, made_name, MadeName, name_of, Names, seek, stands_at}
 unfoldable pub use Rattle.imagemake.specs.Made.{found, is_folder, reach}
-pub use Rattle.imagemake.specs.Making.{entry_of, makes_directory, MakesImage, meaning, Refuses, thing_of}
+pub use Rattle.imagemake.specs.Making.{entry_at, entry_of, makes_directory, MakesImage, meaning, Refuses, thing_of}
 pub use Rattle.imagemake.specs.Nodes.{bare}
 pub use Rattle.imagemake.specs.declared.manifest.MakeFault.{MakeFault}
 pub use Rattle.imagemake.specs.declared.manifest.MakeFault.TheVariants.{NoMemory}

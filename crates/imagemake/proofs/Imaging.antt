@@ -1,10 +1,10 @@
 -- From a blank disk to the bytes of an image that denotes files.
-use Rattle.imagemake.proofs.Common.{◌≡◌, ℕ, ◌*◌, ◌-◌, ◌<◌, ◌≤◌, List, None, Option, Some, length, ap, sym, refl, ◌∙◌}
+use Rattle.imagemake.proofs.Common.{◌≡◌, ℕ, ◌*◌, ◌<◌, ◌≤◌, List, None, Option, Some, length, ap, sym, refl, ◌∙◌}
 use Rattle.imagemake.proofs.Common.{arith, subst, inl, inr, All, IsTrue, nat_lt, Decides, get_or, and_from, cases_eq}
 use Rattle.imagemake.proofs.Common.{le-leb, lt-ltb, Decides-eqb, Decides-like, same_from_decides, length-bytes_of}
 use Rattle.imagemake.proofs.Common.{IsInode, IsUsed, asked_slot, bytes_of, node_at, node_with, slot_of, HasParts}
 use Rattle.imagemake.proofs.Common.{IsSound, bitmap_start_of, super_of, Geometry, Files, Node, slot, Format, format}
-use Rattle.imagemake.proofs.Common.{most_bytes, KeepsRules, bit_of, data_start, format_of, inodes_in, kind_in, size_in}
+use Rattle.imagemake.proofs.Common.{most_bytes, KeepsRules, data_start, format_of, inodes_in, kind_in, size_in}
 use Rattle.imagemake.proofs.Common.{super_number, image_of, length-image_of, IsOnce, blocks_of-free, blocks_of-used}
 use Rattle.imagemake.proofs.Common.{named_before-all, kind-located, size-located, HasAddresses-from, whole-node, ◌+◌}
 use Rattle.imagemake.proofs.Common.{◌&&◌, true, false, cond, Ok, Err, Result, nat_le, replicate, OnOk, IsErrAnd}
@@ -304,7 +304,7 @@ module _ (entries : List ManifestEntry) (size inodes : ℕ) where
   -- by a tree that is blank
   module _ (h : has_numbers size inodes ≡ true) {t : FileTree}
       (bare : IsBareTree (record { size = size; inodes = inodes }) t) where
-    made-is : files_made entries size inodes ≡ made_by t entries
+    pub made-is : files_made entries size inodes ≡ made_by t entries
     unfolding files_made
     made-is = λ i. cond (h i)
         (with_entries (sym bare.limit i) (sym bare.long i) (bare_files (sym bare.long i)) 2 entries) (Err Numbers)

@@ -255,7 +255,7 @@ leads-push {made} leads x =
 -- ---- the entries of a manifest, one after the other
 
 -- what is wrong with one is wrong with all
-Refuses-step : (r : Result Files Wrong) (rest : Files → Result Files Wrong) (fault : MakeFault) → Refuses r fault
+pub Refuses-step : (r : Result Files Wrong) (rest : Files → Result Files Wrong) (fault : MakeFault) → Refuses r fault
     → Refuses (and_then r rest) fault
 Refuses-step r rest NoMemory h = tt
 Refuses-step r rest fault h = ap (λ x. and_then x rest) h

@@ -21,8 +21,11 @@ abbrev pub makes_directory : Thing → Bool
 makes_directory Directory = true
 makes_directory node = false
 
+abbrev pub entry_at : List ℕ → Thing → ManifestEntry
+entry_at path thing = record { path = path; thing = thing_of thing }
+
 abbrev pub entry_of : Entry → ManifestEntry
-entry_of e = record { path = e.path.items; thing = thing_of e.thing }
+entry_of e = entry_at e.path.items e.thing
 
 abbrev pub meaning : List Entry → List ManifestEntry
 meaning entries = map entry_of entries

@@ -5,10 +5,10 @@ ghost use Rattle.unixmodel.specs.Manifest.{bare_files};
 ghost use Rattle.imagemake.specs.Begins.{AddsEntry, BlamesDevice, IsMade, IsSpot, MakesEntries, RefusesEntry};
 ghost use Rattle.imagemake.specs.Begins.{RefusesPath, made_by};
 ghost use Rattle.imagemake.specs.Made.{HasRoom, LeadsTo};
-ghost use Rattle.imagemake.specs.Making.{Refuses, entry_of, meaning};
+ghost use Rattle.imagemake.specs.Making.{Refuses, entry_at, meaning};
 
 use crate::made::{Made, Spot};
-use crate::manifest::{Entry, MakeFault};
+use crate::manifest::{Entry, MakeFault, Thing};
 use crate::path::is_path;
 use crate::store::{StoreFault, store_entry};
 use blockdev::BlockDev;
@@ -51,28 +51,29 @@ fn locate<'a>(made: &Made<'a>, path: &'a [u8]) -> Result<Spot<'a>, MakeFault>
     Ok(spot)
 }
 
-// Puts an entry among the files.
-fn add_entry<'a, D: BlockDev>(
+/// Puts an entry among the files: a thing at a path.
+pub fn add_entry<'a, D: BlockDev>(
     tree: &mut Tree<D>,
     made: &mut Made<'a>,
-    entry: &'a Entry,
+    path: &'a [u8],
+    thing: &Thing,
 ) -> Result<(), MakeFault>
     requires made { IsMade tree.old made.old.items }
     requires room { HasRoom (length tree.old.files) made.old }
-    ensures added { OnOk result (AddsEntry tree.old tree.new made.old.items made.new.items (entry_of entry.now)) }
+    ensures added { OnOk result
+        (AddsEntry tree.old tree.new made.old.items made.new.items (entry_at path.now thing.now)) }
     ensures room { OnOk result (HasRoom (length tree.new.files) made.new) }
-    ensures refused { IfErr result (RefusesEntry tree.old made.old.items (entry_of entry.now)) }
+    ensures refused { IfErr result (RefusesEntry tree.old made.old.items (entry_at path.now thing.now)) }
     ensures cause { BlamesDevice tree.old.failures tree.new.failures result }
 {
     tree.is_whole();
-    let path = entry.path.as_slice();
     let spot = locate(made, path)?;
     let number = made.len() + 2;
     if number >= tree.numbers() {
         return Err(MakeFault::Inodes);
     }
-    store_entry(tree, spot.directory, spot.below, number, &entry.thing)?;
-    made.push(spot, entry.thing.is_directory());
+    store_entry(tree, spot.directory, spot.below, number, thing)?;
+    made.push(spot, thing.is_directory());
     Ok(())
 }
 
@@ -93,7 +94,7 @@ pub fn add_entries<'a, D: BlockDev>(
     ensures cause { BlamesDevice tree.old.failures tree.new.failures result }
 {
     for entry in entries {
-        add_entry(tree, made, entry)?;
+        add_entry(tree, made, entry.path.as_slice(), &entry.thing)?;
     }
     Ok(())
 }

@@ -13,6 +13,7 @@ ghost use Rattle.imagemake.specs.Making.{MakesImage, Refuses, meaning};
 
 mod entry;
 mod made;
+mod maker;
 mod manifest;
 mod path;
 mod store;
@@ -24,6 +25,7 @@ use entry::add_entries;
 use inode::Volume;
 use layout::{Geometry, MOST_BLOCKS};
 use made::Made;
+pub use maker::Maker;
 pub use manifest::{Entry, MakeFault, Manifest, Thing};
 use std::alloc::Global;
 use store::store_root;

@@ -10,8 +10,6 @@ mod ends;
 mod faults;
 mod jsonl;
 mod locations;
-#[cfg(test)]
-mod tests;
 mod texts;
 mod waiting;
 

@@ -40,7 +40,7 @@ pub use Rattle.proc.proofs.Waiting.{found-any, next-same}
 pub use Rattle.proc.specs.Mask.{is_in}
 pub use Rattle.proc.specs.Pick.{Answers, Picks, place_in_round}
 pub use Rattle.proc.specs.Places.{changed, changed_at, exited, has_pid, is_zombie_child_of, orphaned, place_where}
-pub use Rattle.proc.specs.Places.{Places, reaped_at, reaped_from, seat_at, seat_of, seated, with_descriptor}
+pub use Rattle.proc.specs.Places.{Places, reaped_at, reaped_from, seat_of, seated, with_descriptor}
 pub use Rattle.proc.specs.Places.{with_directory, with_mark, with_mode, without, woken, zombie_of, zombie_place}
 pub use Rattle.proc.specs.declared.process.Process.{Process}
 pub use Rattle.proc.specs.declared.table.Seat.{Seat}
@@ -66,7 +66,7 @@ pub use Rattle.unixmodel.specs.OpenFiles.Target.{OnNode, OnPipe}
 pub use Rattle.unixmodel.specs.Outcome.{pending_arg}
 unfoldable pub use Rattle.unixmodel.specs.Outcome.{end_process, no_descriptors}
 pub use Rattle.unixmodel.specs.Plan.{Loaded, loaded_of, Plan, Stack, stack_marks}
-pub use Rattle.unixmodel.specs.Process.{is_running_mode, is_zombie_mode, last_pid, with_answer}
+pub use Rattle.unixmodel.specs.Process.{is_running_mode, is_zombie_mode, with_answer}
 pub use Rattle.unixmodel.specs.ProcessCalls.{exec_registers, file_bytes, has_child, replaced, status_of, zombie_child}
 pub use Rattle.unixmodel.specs.Reap.{is_same, is_used, kept}
 unfoldable pub use Rattle.unixmodel.specs.Reap.{reap, without_nodes, without_opens, without_pipes}
@@ -89,7 +89,7 @@ pub use Rattle.kernel.specs.Kernel.{Kernel, left_as, lives, loaded, marked, on_h
 pub use Rattle.kernel.specs.Kernel.{started_as, state_of, state_with, waking}
 pub use Rattle.kernel.specs.Memory.{drew, reheld, resized, sized, wrote}
 pub use Rattle.kernel.specs.Opening.{advanced, duplicated, HasFetched, HasStored}
-pub use Rattle.kernel.specs.Processes.{child_of, collected, forked_as, home_at, MayFork, MayWorkIn, working_in, WorksIn}
+pub use Rattle.kernel.specs.Processes.{child_of, collected, forked_as, home_at, MayWorkIn, working_in, WorksIn}
 pub use Rattle.kernel.specs.Ready.{awaited, awaited_in, has_slept, seen, Stands}
 pub use Rattle.kernel.specs.Sound.{CanRun, is_at, is_awaited, is_on_pipe, IsAlive, IsEnded, IsKernel, IsLive, IsMode}
 pub use Rattle.kernel.specs.Sound.{IsOpened, IsOpenFile, IsOpenOn, IsPlace, IsPlaced, WaitsWell}

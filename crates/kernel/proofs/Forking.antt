@@ -4,9 +4,9 @@ use Rattle.kernel.proofs.Common.{taken_frames, put_process, is_zombie_mode, take
 use Rattle.kernel.proofs.Common.{page_frames, shared_page, table-shared, with_hold, IsInUse, slice_set, all_shared}
 use Rattle.kernel.proofs.Common.{state_of, IsKernel, IsOpened, with_table, SpaceView, frames_in, has_space, is_within}
 use Rattle.kernel.proofs.Common.{IsWatched, awaited_in, true≢false, and_parts, forked_as, with_view, free_slot, home_in}
-use Rattle.kernel.proofs.Common.{nat_le, length, Option, is_none, is_some, Kernel, on_hart, rest_of, IsPlace, IsPlaced}
-use Rattle.kernel.proofs.Common.{Process, Places, Watches, opens_of, MayFork, child_of, seat_at, seat_of, set_comm}
-use Rattle.kernel.proofs.Common.{last_pid, IsTable, file_at, ◌≡◌, ◌≢◌, ℕ, ◌+◌, ◌<◌, ◌≤◌, ◌%◌, Bool, true, false, List}
+use Rattle.kernel.proofs.Common.{length, Option, is_none, is_some, Kernel, on_hart, rest_of, IsPlace, IsPlaced}
+use Rattle.kernel.proofs.Common.{Process, Watches, opens_of, child_of, seat_of, set_comm}
+use Rattle.kernel.proofs.Common.{IsTable, file_at, ◌≡◌, ◌≢◌, ℕ, ◌+◌, ◌<◌, ◌≤◌, ◌%◌, true, false, List}
 use Rattle.kernel.proofs.Common.{Some, None, Ok, refl, ap, subst, sym, ◌∙◌, arith, not, base, is_at, put, slot, State}
 use Rattle.kernel.proofs.Common.{Keeps, Seat, seated, woken, joined, copied, forked, reheld, all-set, WaitsWell, ◌-◌}
 use Rattle.kernel.proofs.Common.{[], option_and_then, counting, view_at, FileTree, Files, Memory, Spaces, cond_some}
@@ -25,6 +25,7 @@ use Rattle.kernel.proofs.Turning.{Runner, me_of, runner-of}
 use Rattle.kernel.proofs.Watching.{kernel-waking, watched-roused}
 use Rattle.kernel.proofs.Working.{folder-there}
 use Rattle.name_rules.proofs.Counts.{none-is}
+use Rattle.proc.proofs.Waiting.{IsSeat, seat-is}
 use Rattle.proc.specs.Places as table
 use Rattle.unixmodel.specs.OpenFiles.{OpenFile}
 use Rattle.unixmodel.specs.ProcessCalls as rows
@@ -41,29 +42,6 @@ free-put : (os : Processes) (i : ℕ) (p q : Process) → slot os i ≡ Some p �
 free-put os i p q at = rw
     (prefix_len-set (λ o. not (is_none o)) os i _ None (ap (λ o. not (is_none o)) (sym at)), length-set os i (Some q))
     refl
-
--- the seat of a new process
-pub record IsSeat (t : Places) (seat : Seat) : Type 0 where
-  pub free : free_slot t.places ≡ Some seat.place
-  pub pid : seat.pid ≡ t.next_pid
-  pub left : nat_le t.next_pid last_pid ≡ true
-
-seat-go : (t : Places) (o : Option ℕ) (b : Bool) (seat : Seat) → free_slot t.places ≡ o
-    → nat_le t.next_pid last_pid ≡ b → seat_at t.next_pid o ≡ Ok seat → IsSeat t seat
-seat-go t None b seat free left is = absurd (cc)
-seat-go t (Some i) false seat free left is = let e = rw left at is in absurd (cc)
-seat-go t (Some i) true seat free left is =
-    let e = rw left at is in
-    let made : Seat = record { place = i; pid = t.next_pid } in
-    let same : made ≡ seat = cc in
-    record {
-      free = free ∙ ap (λ (s : Seat). Some s.place) same;
-      pid = sym (ap (λ (s : Seat). s.pid) same);
-      left = left;
-    }
-
-pub seat-is : (t : Places) (seat : Seat) → seat_of t ≡ Ok seat → IsSeat t seat
-seat-is t seat is = seat-go t _ _ seat refl refl is
 
 -- ---- the state with the child
 
@@ -295,15 +273,16 @@ watched-forked k watched j child lives ds =
     (λ pid is. absurd (true≢false
     (sym (and_parts (table.is_child_of pid child) (is_zombie_mode child.mode) is).1 ∙ lives))))
 
-pub fork-keeps : {k : Kernel} {i : ℕ} {seat : Seat} → Keeps k → MayFork k i seat → slice_index k.spaces.registers 0 ≡ 0
-    → k.spaces.pc % 4 ≡ 0 → {q : Process} → Some q ≡ option_map (on_hart k.spaces) (slot k.table.places i)
+pub fork-keeps : {k : Kernel} {i : ℕ} {seat : Seat} → Keeps k → k.spaces.active ≡ Some i → seat_of k.table ≡ Ok seat
+    → slice_index k.spaces.registers 0 ≡ 0 → k.spaces.pc % 4 ≡ 0 → {q : Process}
+    → Some q ≡ option_map (on_hart k.spaces) (slot k.table.places i)
     → taken_frames (copied k.spaces i seat.place) ≤ k.spaces.frames
     → Keeps (record (forked_as k i seat q) { table = woken (forked_as k i seat q).table seat.place })
-fork-keeps {k} {i} {seat} keeps may z a {q} said fits =
-    let x = runner-of keeps.sound may.running in
+fork-keeps {k} {i} {seat} keeps running next z a {q} said fits =
+    let x = runner-of keeps.sound running in
     record {
       sound = kernel-waking (subst IsKernel (sym (fork-by k i seat said x.run.process))
-          (fork-kernel x z a seat (seat-is k.table seat may.next) fits)) _;
+          (fork-kernel x z a seat (seat-is k.table seat next) fits)) _;
       watched = watched-forked k keeps.watched seat.place (record (child_of q) { pid = seat.pid }) refl q.descriptors;
     }
 

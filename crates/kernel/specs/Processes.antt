@@ -1,5 +1,5 @@
 -- What the kernel's steps do to the running process, and to others.
-use Rattle.std.specs.Prelude.{Bool, None, Ok, Option, Some, false, option_map, slice_set, true, ℕ, ◌<◌, ◌≡◌, ◌≤◌}
+use Rattle.std.specs.Prelude.{None, Ok, Option, Some, false, option_map, slice_set, ℕ, ◌<◌, ◌≡◌, ◌≤◌}
 use Rattle.kernel.specs.Descriptors.{all_shared}
 use Rattle.kernel.specs.Holding.{IsFolder, all_dropped, listed}
 use Rattle.kernel.specs.Kernel.{Kernel, counting, on_hart, waking}
@@ -36,10 +36,9 @@ WorksIn old new i n = new ≡ counting (working_in old i n) new.tree.failures
 
 -- ---- fork
 
--- the running process, in slot i, may have a child in a seat, which is the next one; no access of the device has failed
-pub record MayFork (k : Kernel) (i : ℕ) (seat : Seat) : Type 0 where
+-- the running process, in slot i, may have a child; no access of the device has failed
+pub record MayFork (k : Kernel) (i : ℕ) : Type 0 where
   pub running : k.spaces.active ≡ Some i
-  pub next : seat_of k.table ≡ Ok seat
   pub up : k.tree.failed ≡ false
 
 abbrev pub child_of : Process → Process
@@ -54,12 +53,22 @@ forked_as k i seat p = record k {
   files = all_shared k.files p.descriptors;
 }
 
--- the same where the frames suffice, and the child is awake; else nothing changes
-abbrev pub Forks : Kernel → Kernel → ℕ → Seat → Bool → Type 0
-Forks old new i seat true = (taken_frames (copied old.spaces i seat.place) ≤ old.spaces.frames)
-    × ((p : Process) → slot old.table.places i ≡ Some p
-    → new ≡ waking (forked_as old i seat (on_hart old.spaces p)) new.table.awake)
-Forks old new i seat false = (old.spaces.frames < taken_frames (copied old.spaces i seat.place)) × (new ≡ old)
+-- the process in slot i has a child in the next seat, for which the frames suffice, and it is awake
+pub record HasForked (old new : Kernel) (i : ℕ) (seat : Seat) : Type 0 where
+  pub next : seat_of old.table ≡ Ok seat
+  pub fits : taken_frames (copied old.spaces i seat.place) ≤ old.spaces.frames
+  pub same : (p : Process) → slot old.table.places i ≡ Some p
+      → new ≡ waking (forked_as old i seat (on_hart old.spaces p)) new.table.awake
+
+-- no seat is left, or the frames don't suffice
+abbrev pub LacksRoom : Kernel → ℕ → Type 0
+LacksRoom k i =
+    (seat : Seat) → seat_of k.table ≡ Ok seat → k.spaces.frames < taken_frames (copied k.spaces i seat.place)
+
+-- the pid of the child; without room nothing changes
+abbrev pub Forks : Kernel → Kernel → ℕ → Option ℕ → Type 0
+Forks old new i (Some pid) = (seat : Seat) × (pid ≡ seat.pid) × HasForked old new i seat
+Forks old new i None = LacksRoom old i × (new ≡ old)
 
 -- ---- wait
 

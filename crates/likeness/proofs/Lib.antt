@@ -1,2 +1,3 @@
 mod Same
+mod Growing
 mod Reading

@@ -16,7 +16,8 @@ use Rattle.likeness.proofs.Same.{alike-by, slots-same}
 use Rattle.likeness.specs.Likeness.{AreSameButFiles, Compares}
 use Rattle.likeness.specs.declared.nodes.Side.{Side}
 use Rattle.likeness.specs.declared.nodes.Side.TheVariants.{One, Other}
-use Rattle.schedules.specs.Alike.{Alike}
+use Rattle.renumbering.specs.Alike.{AlikeUpToNumbers}
+use Rattle.renumbering.specs.Pairs.{FittingStatesAreRenumbered}
 use Rattle.tree.proofs.Storing.{whole-node}
 use Rattle.tree.specs.Calls.{IsPart}
 use Rattle.tree.specs.Stored.{FitsPlaces}
@@ -240,14 +241,15 @@ all-nodes {one} {other = other} n so_far long other_long = (
 -- ---- the whole
 
 -- files that are compared last
-pub files-last : (one new other new' : Kernel) (r : Result Bool Side) → AreSameButFiles (state_of one) (state_of other)
+pub files-last : FittingStatesAreRenumbered → (one new other new' : Kernel) (r : Result Bool Side)
+    → AreSameButFiles (state_of one) (state_of other)
     → Compares one new other new' (λ same. OnTrue same (one.tree.files ≡ other.tree.files)) r
-    → Compares one new other new' (λ yes. OnTrue yes (Alike (state_of one) (state_of other))) r
-files-last one new other new' (Ok same) rest told = (
+    → Compares one new other new' (λ yes. OnTrue yes (AlikeUpToNumbers (state_of one) (state_of other))) r
+files-last law one new other new' (Ok same) rest told = (
   told.0,
   told.1,
   OnTrue_from same _ (λ agreed.
-      alike-by (state_of one) (state_of other) rest (OnTrue_at agreed told.2)),
+      alike-by law (state_of one) (state_of other) rest (OnTrue_at agreed told.2)),
 )
-files-last one new other new' (Err One) rest lost = lost
-files-last one new other new' (Err Other) rest lost = lost
+files-last law one new other new' (Err One) rest lost = lost
+files-last law one new other new' (Err Other) rest lost = lost

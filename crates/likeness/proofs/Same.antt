@@ -1,14 +1,12 @@
 -- What two kernels have in common, part by part.
 use Rattle.std.proofs.Common.{Bool, List, None, Option, Some, [], ap, ap₂, arith, drop, false, length}
-use Rattle.std.proofs.Common.{get_or, nat_eq, not, refl, suc, sym, take, true, zero, ℕ, ℤ, ◌++◌, ◌+◌, ◌<◌, ◌∙◌, ◌∷◌}
+use Rattle.std.proofs.Common.{get_or, not, refl, suc, sym, take, true, zero, ℕ, ℤ, ◌++◌, ◌+◌, ◌<◌, ◌∙◌, ◌∷◌}
 use Rattle.std.proofs.Common.{◌≡◌}
 use Rattle.std.proofs.lemmas.Bool.{OnTrue_at, OnTrue_from}
-use Rattle.std.proofs.lemmas.Bool.Decides.{Decides-eqb, Decides-int_eq}
+use Rattle.std.proofs.lemmas.Bool.Decides.{Decides-int_eq}
 use Rattle.std.proofs.lemmas.List.{ext_get_or, length-append, length-map}
 use Rattle.std.proofs.Math.Seq.{drop-append_seam, take-append_seam}
-use Rattle.std.proofs.lemmas.Slice.Eq.{slice_eq-Decides}
 use Rattle.std.specs.Bool.{Decides, OnTrue}
-use Rattle.std.specs.Cmp.Lexicographic.{pointwise}
 use Rattle.std.specs.Option.{option_eq}
 use Rattle.std.specs.Ordering.{int_eq}
 use Rattle.std.specs.Prelude.{is_some, option_map, slice_get}
@@ -20,10 +18,12 @@ use Rattle.kernel.proofs.Readies.{process-state}
 use Rattle.kernel.specs.Kernel.{Kernel, loaded, on_hart, state_of}
 use Rattle.kernel.specs.Sound.{IsKernel}
 use Rattle.kernel.specs.Whole.{with_space}
-use Rattle.likeness.specs.Likeness.{AreSameButFiles}
+use Rattle.likeness.specs.Likeness.{AreSameButFiles, with_descriptors_of}
 use Rattle.proc.specs.declared.process.Process.{Process}
 use Rattle.proc.specs.Places.{Places, changed_at}
-use Rattle.schedules.specs.Alike.{Alike, process_set_back, state_set_back, timeless}
+use Rattle.renumbering.specs.Alike.{AlikeUpToNumbers}
+use Rattle.renumbering.specs.Pairs.{BothFit, EachFits, FittingStatesAreRenumbered, IsPair, Pairs, ProcessesFit}
+use Rattle.schedules.specs.Alike.{process_set_back, state_set_back, timeless}
 use Rattle.spaces.specs.Spaces.{SpaceView, view_at}
 use Rattle.unixmodel.specs.Console.{Console}
 use Rattle.unixmodel.specs.declared.call.Call.{Call}
@@ -61,15 +61,10 @@ option-decides E each None (Some b) = (λ h. absurd (cc), λ h. absurd (cc))
 option-decides E each (Some a) None = (λ h. absurd (cc), λ h. absurd (cc))
 option-decides E each (Some a) (Some b) = (λ h. ap Some ((each a b).0 h), λ h. (each a b).1 (some-same h))
 
--- what `==` says of two statuses, and of two lists of descriptors
+-- what `==` says of two statuses
 pub status-same : (same : Bool) (o p : Option ℤ) → same ≡ option_eq int_eq o p → OnTrue same (o ≡ p)
 status-same same o p is =
     OnTrue_from same _ (λ agreed. (option-decides int_eq Decides-int_eq o p).0 (sym is ∙ agreed))
-
-pub descriptors-same : (same : Bool) (xs ys : List (Option ℕ)) → same ≡ pointwise (option_eq nat_eq) xs ys
-    → OnTrue same (xs ≡ ys)
-descriptors-same same xs ys is =
-    OnTrue_from same _ (slice_eq-Decides (option-decides nat_eq Decides-eqb) xs ys same is).0
 
 -- ---- processes
 
@@ -92,13 +87,19 @@ process_of pid parent registers pc descriptors directory killed mode = record {
   mode = mode;
 }
 
-pub process-same : (p q : Process) → p.pid ≡ q.pid → p.parent ≡ q.parent → p.registers ≡ q.registers → p.pc ≡ q.pc
+process-same : (p q : Process) → p.pid ≡ q.pid → p.parent ≡ q.parent → p.registers ≡ q.registers → p.pc ≡ q.pc
     → p.descriptors ≡ q.descriptors → p.directory ≡ q.directory → p.killed ≡ q.killed → p.mode ≡ q.mode → p ≡ q
 process-same p q pid parent registers pc descriptors directory killed mode =
     ap₂ (λ a b. process_of a b p.registers p.pc p.descriptors p.directory p.killed p.mode) pid parent
     ∙ ap₂ (λ a b. process_of q.pid q.parent a b p.descriptors p.directory p.killed p.mode) registers pc
     ∙ ap₂ (λ a b. process_of q.pid q.parent q.registers q.pc a b p.killed p.mode) descriptors directory
     ∙ ap₂ (λ a b. process_of q.pid q.parent q.registers q.pc q.descriptors q.directory a b) killed mode
+
+-- all is equal but the descriptors
+pub same-but-descriptors : (p q : Process) → p.pid ≡ q.pid → p.parent ≡ q.parent → p.registers ≡ q.registers
+    → p.pc ≡ q.pc → p.directory ≡ q.directory → p.killed ≡ q.killed → p.mode ≡ q.mode → q ≡ with_descriptors_of q p
+same-but-descriptors p q pid parent registers pc directory killed mode = sym (
+    process-same (with_descriptors_of q p) q pid parent registers pc refl directory killed mode)
 
 place-here : (k : Kernel) (i : ℕ) (o : Option Process) → o ≡ slot (loaded k).places i
     → process_at (timeless (state_of k)) i
@@ -118,26 +119,34 @@ place-here k i o is =
     swap None = refl
     swap (Some p) = refl
 
-module _ (k l : Kernel) (i : ℕ) where
-  abbrev PlacesAreSame : Type 0
-  PlacesAreSame = process_at (timeless (state_of k)) i ≡ process_at (timeless (state_of l)) i
+both-at : {X : Type 0} (Fits : X → X → Type 0) {o o' u u' : Option X} → o ≡ o' → u ≡ u' → BothFit Fits o' u'
+    → BothFit Fits o u
+both-at Fits first second fits = rw (first, second) fits
+
+module _ (k l : Kernel) (i : ℕ) (pairs : Pairs) where
+  abbrev PlacesFit : Type 0
+  PlacesFit = BothFit (ProcessesFit pairs) (process_at (timeless (state_of k)) i)
+      (process_at (timeless (state_of l)) i)
 
   -- no process, and whether the other kernel has none
-  pub none-same : (none : Bool) (o : Option Process) → None ≡ slot (loaded k).places i → o ≡ slot (loaded l).places i
-      → is_some o ≡ not none → OnTrue none PlacesAreSame
-  none-same none None first second is =
-      OnTrue_from none PlacesAreSame (λ agreed. place-here k i None first ∙ sym (place-here l i None second))
-  none-same none (Some p) first second is =
-      OnTrue_from none PlacesAreSame (λ agreed. absurd (let both : true ≡ false = is ∙ ap not agreed in cc))
+  pub none-fit : (none : Bool) (o : Option Process) → None ≡ slot (loaded k).places i → o ≡ slot (loaded l).places i
+      → is_some o ≡ not none → OnTrue none PlacesFit
+  none-fit none None first second is =
+      OnTrue_from none PlacesFit (λ agreed.
+      both-at (ProcessesFit pairs) (place-here k i None first) (place-here l i None second) tt)
+  none-fit none (Some p) first second is =
+      OnTrue_from none PlacesFit (λ agreed. absurd (let both : true ≡ false = is ∙ ap not agreed in cc))
 
-  pub place-same : (same : Bool) (p q : Process) → Some p ≡ slot (loaded k).places i
-      → Some q ≡ slot (loaded l).places i → process_by (Some k.ticks) p ≡ process_by (Some l.ticks) q
-      → OnTrue same (view_at k.spaces i ≡ view_at l.spaces i) → OnTrue same PlacesAreSame
-  place-same same p q first second alike spaces = OnTrue_from same PlacesAreSame (λ agreed.
-      let views : view_at k.spaces i ≡ view_at l.spaces i = OnTrue_at agreed spaces in
-      place-here k i (Some p) first
-      ∙ ap₂ (λ (h : SpaceView) (r : Process). Some (with_space h r)) views alike
-      ∙ sym (place-here l i (Some q) second))
+  pub place-fit : (fit : Bool) (p q : Process) → Some p ≡ slot (loaded k).places i
+      → Some q ≡ slot (loaded l).places i
+      → process_by (Some l.ticks) q ≡ with_descriptors_of q (process_by (Some k.ticks) p)
+      → view_at k.spaces i ≡ view_at l.spaces i → OnTrue fit (EachFits (IsPair pairs) p.descriptors q.descriptors)
+      → OnTrue fit PlacesFit
+  place-fit fit p q first second alike spaces named = OnTrue_from fit PlacesFit (λ agreed.
+      both-at (ProcessesFit pairs) (place-here k i (Some p) first) (place-here l i (Some q) second) (record {
+        descriptors = OnTrue_at agreed named;
+        rest = ap₂ (λ (h : SpaceView) (r : Process). with_space h r) (sym spaces) alike;
+      }))
 
 -- ---- how many slots there are
 
@@ -194,17 +203,22 @@ pub last-same : (k l : Kernel) (t u : Places) → t ≡ k.table → u ≡ l.tabl
 last-same k l t u first second same = last-picked k ∙ sym (ap (λ (x : Places). x.last) first) ∙ same
     ∙ ap (λ (x : Places). x.last) second ∙ sym (last-picked l)
 
-pub alike-by : (s t : State) → AreSameButFiles s t → s.files ≡ t.files → Alike s t
+pub alike-by : FittingStatesAreRenumbered → (s t : State) → AreSameButFiles s t → s.files ≡ t.files
+    → AlikeUpToNumbers s t
 unfolding state_set_back
-alike-by s t same files = rw (
-  same.places,
-  files,
-  same.opens,
-  same.pipes,
-  same.console,
-  same.next_pid,
-  same.last,
-  same.frame_limit,
-  same.block_limit,
-  same.halted,
-) refl
+alike-by law s t same files = law (timeless s) (timeless t) (record {
+  files = same.pairs.files;
+  pipes = same.pairs.pipes;
+  places = same.pairs.places;
+  open_files = same.pairs.open_files;
+  held = same.pairs.held;
+  rest = rw (
+    files,
+    same.console,
+    same.next_pid,
+    same.last,
+    same.frame_limit,
+    same.block_limit,
+    same.halted,
+  ) refl;
+})

@@ -4,7 +4,8 @@ use Rattle.kernel.specs.Disk.{HasRead, IsLost}
 use Rattle.kernel.specs.Kernel.{Kernel}
 use Rattle.likeness.specs.declared.nodes.Side.{Side}
 use Rattle.likeness.specs.declared.nodes.Side.TheVariants.{One, Other}
-use Rattle.schedules.specs.Alike.{timeless}
+use Rattle.likeness.specs.Pairing.{HavePairs}
+use Rattle.proc.specs.declared.process.Process.{Process}
 use Rattle.unixmodel.specs.Memory.{Perm}
 use Rattle.unixmodel.specs.State.{State}
 use Rattle.vm.specs.declared.Marks.{Marks}
@@ -21,11 +22,13 @@ Compares one one' other other' Says (Ok x) = HasRead one one' × HasRead other o
 Compares one one' other other' Says (Err One) = IsLost one.tree one'.tree × HasRead other other'
 Compares one one' other other' Says (Err Other) = HasRead one one' × IsLost other.tree other'.tree
 
--- two states are alike, except for their files
+-- a process that names the open files of another one
+abbrev pub with_descriptors_of : Process → Process → Process
+with_descriptors_of q p = record p { descriptors = q.descriptors }
+
+-- two states are alike up to the numbers of open files and pipes, except for their files
 pub record AreSameButFiles (s t : State) : Type 0 where
-  pub places : (timeless s).places ≡ (timeless t).places
-  pub opens : s.opens ≡ t.opens
-  pub pipes : s.pipes ≡ t.pipes
+  pub pairs : HavePairs s t
   pub console : s.console ≡ t.console
   pub next_pid : s.next_pid ≡ t.next_pid
   pub last : s.last ≡ t.last

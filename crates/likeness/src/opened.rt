@@ -1,56 +1,98 @@
-//! Whether two kernels have the same open files, pipes and typed bytes.
-ghost use Rattle.std.specs.Prelude.{◌≡◌, ◌++◌, ◌<◌, ◌≤◌, ◌+◌, length, slice_index};
+//! Whether two kernels have the same open files and pipes, up to their numbers, and the same typed bytes.
+ghost use Rattle.std.specs.Prelude.{◌≡◌, ◌++◌, ◌<◌, ◌≤◌, ◌+◌, None, length, slice_index, ℕ};
 ghost use Rattle.std.specs.Bool.{OnTrue};
-ghost use Rattle.files.specs.Meant.{file_of};
 ghost use Rattle.kernel.specs.Kernel.{state_of};
+ghost use Rattle.likeness.specs.Pairing.{FitsAt, Grows, IsSame, pairs_of};
+ghost use Rattle.renumbering.specs.Pairs.{ArePairs, BothFit, FilesFit, TablesFit};
 ghost use Rattle.unixmodel.specs.Files.{slot};
 
+use crate::pairs::{Pairs, fits_file};
 use blockdev::BlockDev;
 use console::Console;
-use files::{OpenFile, PLACES};
+use files::PLACES;
 use kernel::Kernel;
 use spaces::PIPES;
 use sv39::Translate;
 
-// Whether two open files are the same.
-fn is_same_file(one: OpenFile, other: OpenFile) -> bool
-    ensures { OnTrue result (file_of one ≡ file_of other) }
+// Whether open files of two kernels are equal except for their pipes, which are in a pair, or both numbers are free.
+fn fits_opened<D: BlockDev, T: Translate, E: BlockDev, U: Translate>(
+    pipes: &mut Pairs,
+    one: &Kernel<D, T>,
+    other: &Kernel<E, U>,
+    id: usize,
+    their: usize,
+) -> bool
+    ensures grows { Grows pipes.old pipes.new }
+    ensures fits { OnTrue result (BothFit (FilesFit (pairs_of pipes.new))
+        (slot (state_of one.now).opens id) (slot (state_of other.now).opens their)) }
 {
-    one == other
+    let Some((file, _)) = one.opened(id) else {
+        return other.opened(their).is_none();
+    };
+    let Some((their_file, _)) = other.opened(their) else {
+        return false;
+    };
+    fits_file(pipes, file, their_file)
 }
 
-// Whether two kernels have the same open file with this number.
-fn has_same_open<D: BlockDev, T: Translate, E: BlockDev, U: Translate>(
+// Whether an open file fits the one in a pair with it, or its number is free and in no pair.
+fn fits_open<D: BlockDev, T: Translate, E: BlockDev, U: Translate>(
+    pipes: &mut Pairs,
+    files: &Pairs,
     one: &Kernel<D, T>,
     other: &Kernel<E, U>,
     id: usize,
 ) -> bool
-    ensures { OnTrue result (slot (state_of one.now).opens id ≡ slot (state_of other.now).opens id) }
+    ensures grows { Grows pipes.old pipes.new }
+    ensures fits { OnTrue result (FitsAt (pairs_of files.now) (FilesFit (pairs_of pipes.new))
+        (state_of one.now).opens (state_of other.now).opens id) }
 {
-    let Some((file, _)) = one.opened(id) else {
-        return other.opened(id).is_none();
+    let Some(their) = files.there(id) else {
+        return one.opened(id).is_none();
     };
-    let Some((their, _)) = other.opened(id) else {
-        return false;
-    };
-    is_same_file(file, their)
+    fits_opened(pipes, one, other, id, their)
 }
 
-/// Whether two kernels have the same open files.
-pub fn has_same_opens<D: BlockDev, T: Translate, E: BlockDev, U: Translate>(
-    one: &Kernel<D, T>,
-    other: &Kernel<E, U>,
-) -> bool
-    ensures { OnTrue result ((state_of one.now).opens ≡ (state_of other.now).opens) }
+// Whether a number of the other kernel is in a pair, or no open file has it.
+fn is_file_paired<E: BlockDev, U: Translate>(files: &Pairs, other: &Kernel<E, U>, id: usize) -> bool
+    ensures { OnTrue result (slot files.now.back id ≡ None → slot (state_of other.now).opens id ≡ None) }
 {
-    one.is_sound();
-    other.is_sound();
+    files.back(id).is_some() || other.opened(id).is_none()
+}
+
+// Whether each open file of the other kernel is in a pair.
+fn are_files_paired<E: BlockDev, U: Translate>(files: &Pairs, other: &Kernel<E, U>) -> bool
+    ensures { OnTrue result
+        ((l : ℕ) → l < 100 → slot files.now.back l ≡ None → slot (state_of other.now).opens l ≡ None) }
+{
     for id in 0..PLACES {
-        if !has_same_open(one, other, id) {
+        if !is_file_paired(files, other, id) {
             return false;
         }
     }
     true
+}
+
+/// Whether all open files of two kernels are in pairs, of which each fits.
+pub fn fit_opens<D: BlockDev, T: Translate, E: BlockDev, U: Translate>(
+    pipes: &mut Pairs,
+    files: &Pairs,
+    one: &Kernel<D, T>,
+    other: &Kernel<E, U>,
+) -> bool
+    requires { ArePairs (pairs_of files.now) 100 }
+    ensures grows { Grows pipes.old pipes.new }
+    ensures fits { OnTrue result (TablesFit (pairs_of files.now) (FilesFit (pairs_of pipes.new))
+        (state_of one.now).opens (state_of other.now).opens) }
+{
+    one.is_sound();
+    other.is_sound();
+    for id in 0..PLACES {
+        if !fits_open(pipes, files, one, other, id) {
+            return false;
+        }
+    }
+    are_files_paired(files, other)
 }
 
 // The byte at a place of two slices, of which the second follows the first.
@@ -85,18 +127,19 @@ fn has_same_bytes(front: &[u8], behind: &[u8], their_front: &[u8], their_behind:
     true
 }
 
-// Whether two kernels have the same pipe with this number.
+// Whether pipes of two kernels hold the same bytes, or both numbers are free.
 fn has_same_pipe<D: BlockDev, T: Translate, E: BlockDev, U: Translate>(
     one: &Kernel<D, T>,
     other: &Kernel<E, U>,
     q: usize,
+    their: usize,
 ) -> bool
-    ensures { OnTrue result (slot (state_of one.now).pipes q ≡ slot (state_of other.now).pipes q) }
+    ensures { OnTrue result (slot (state_of one.now).pipes q ≡ slot (state_of other.now).pipes their) }
 {
     let Some((front, behind)) = one.pipe(q) else {
-        return other.pipe(q).is_none();
+        return other.pipe(their).is_none();
     };
-    let Some((their_front, their_behind)) = other.pipe(q) else {
+    let Some((their_front, their_behind)) = other.pipe(their) else {
         return false;
     };
     if front.len() > 512
@@ -109,21 +152,60 @@ fn has_same_pipe<D: BlockDev, T: Translate, E: BlockDev, U: Translate>(
     has_same_bytes(front, behind, their_front, their_behind)
 }
 
-/// Whether two kernels have the same pipes.
-pub fn has_same_pipes<D: BlockDev, T: Translate, E: BlockDev, U: Translate>(
+// Whether a pipe holds the same bytes as the one in a pair with it, or its number is free and in no pair.
+fn fits_pipe<D: BlockDev, T: Translate, E: BlockDev, U: Translate>(
+    pipes: &Pairs,
     one: &Kernel<D, T>,
     other: &Kernel<E, U>,
+    q: usize,
 ) -> bool
-    ensures { OnTrue result ((state_of one.now).pipes ≡ (state_of other.now).pipes) }
+    ensures { OnTrue result
+        (FitsAt (pairs_of pipes.now) IsSame (state_of one.now).pipes (state_of other.now).pipes q) }
 {
-    one.is_sound();
-    other.is_sound();
+    let Some(their) = pipes.there(q) else {
+        return one.pipe(q).is_none();
+    };
+    has_same_pipe(one, other, q, their)
+}
+
+// Whether a number of the other kernel is in a pair, or no pipe has it.
+fn is_pipe_paired<E: BlockDev, U: Translate>(pipes: &Pairs, other: &Kernel<E, U>, q: usize) -> bool
+    ensures { OnTrue result (slot pipes.now.back q ≡ None → slot (state_of other.now).pipes q ≡ None) }
+{
+    pipes.back(q).is_some() || other.pipe(q).is_none()
+}
+
+// Whether each pipe of the other kernel is in a pair.
+fn are_pipes_paired<E: BlockDev, U: Translate>(pipes: &Pairs, other: &Kernel<E, U>) -> bool
+    ensures { OnTrue result
+        ((l : ℕ) → l < 100 → slot pipes.now.back l ≡ None → slot (state_of other.now).pipes l ≡ None) }
+{
     for q in 0..PIPES {
-        if !has_same_pipe(one, other, q) {
+        if !is_pipe_paired(pipes, other, q) {
             return false;
         }
     }
     true
+}
+
+/// Whether all pipes of two kernels are in pairs, of which each holds the same bytes.
+pub fn fit_pipes<D: BlockDev, T: Translate, E: BlockDev, U: Translate>(
+    pipes: &Pairs,
+    one: &Kernel<D, T>,
+    other: &Kernel<E, U>,
+) -> bool
+    requires { ArePairs (pairs_of pipes.now) 100 }
+    ensures { OnTrue result
+        (TablesFit (pairs_of pipes.now) IsSame (state_of one.now).pipes (state_of other.now).pipes) }
+{
+    one.is_sound();
+    other.is_sound();
+    for q in 0..PIPES {
+        if !fits_pipe(pipes, one, other, q) {
+            return false;
+        }
+    }
+    are_pipes_paired(pipes, other)
 }
 
 /// Whether two consoles have the same bytes.

@@ -1,13 +1,16 @@
-//! Whether two kernels have the same processes, each by its own clock.
+//! Whether two kernels have the same processes, each by its own clock, up to the numbers of open files.
 ghost use Rattle.std.specs.Prelude.{◌≡◌, ◌<◌, Some, length, slice_get, true};
 ghost use Rattle.std.specs.Bool.{OnTrue};
 ghost use Rattle.digests.specs.Reads.{process_by};
 ghost use Rattle.kernel.specs.Kernel.{state_of};
-ghost use Rattle.likeness.specs.Likeness.{rights_of};
+ghost use Rattle.likeness.specs.Likeness.{rights_of, with_descriptors_of};
+ghost use Rattle.likeness.specs.Pairing.{Grows, pairs_of};
+ghost use Rattle.renumbering.specs.Pairs.{BothFit, EachFits, ProcessesFit};
 ghost use Rattle.schedules.specs.Alike.{timeless};
 ghost use Rattle.spaces.specs.Spaces.{has_space, view_at};
 ghost use Rattle.unixmodel.specs.State.{process_at};
 
+use crate::pairs::{Pairs, fit_descriptors};
 use blockdev::BlockDev;
 use digests::process_by;
 use kernel::Kernel;
@@ -104,13 +107,6 @@ fn are_same_numbers(one: &[u64], other: &[u64]) -> bool
     one == other
 }
 
-// Whether descriptors name the same.
-fn are_same_descriptors(one: &[Option<u8>], other: &[Option<u8>]) -> bool
-    ensures { OnTrue result (one.now ≡ other.now) }
-{
-    one == other
-}
-
 // Whether two pending calls are the same.
 fn is_same_pending(one: Pending, other: Pending) -> bool
     ensures { OnTrue result (one ≡ other) }
@@ -146,9 +142,10 @@ fn is_same_mode(one: Mode, other: Mode) -> bool
     }
 }
 
-// Whether two processes are the same, each by its own clock.
+// Whether two processes are the same except for their descriptors, each by its own clock.
 fn is_same_process(ticks: u32, process: Process, other_ticks: u32, other: Process) -> bool
-    ensures { OnTrue result (process_by (Some ticks) process ≡ process_by (Some other_ticks) other) }
+    ensures { OnTrue result (process_by (Some other_ticks) other
+        ≡ with_descriptors_of other (process_by (Some ticks) process)) }
 {
     let one = process_by(Some(ticks), process);
     let two = process_by(Some(other_ticks), other);
@@ -161,20 +158,20 @@ fn is_same_process(ticks: u32, process: Process, other_ticks: u32, other: Proces
     if !are_same_numbers(&one.registers, &two.registers) {
         return false;
     }
-    if !are_same_descriptors(&one.descriptors, &two.descriptors) {
-        return false;
-    }
     is_same_mode(one.mode, two.mode)
 }
 
-// Whether two kernels have the same process in a slot.
-fn has_same_place<D: BlockDev, T: Translate, E: BlockDev, U: Translate>(
+// Whether two kernels have processes in a slot that are the same except for the numbers of open files, which are in
+// pairs, or both have none.
+fn fits_place<D: BlockDev, T: Translate, E: BlockDev, U: Translate>(
+    files: &mut Pairs,
     one: &Kernel<D, T>,
     other: &Kernel<E, U>,
     at: usize,
 ) -> bool
-    ensures { OnTrue result
-        (process_at (timeless (state_of one.now)) at ≡ process_at (timeless (state_of other.now)) at) }
+    ensures grows { Grows files.old files.new }
+    ensures fits { OnTrue result (BothFit (ProcessesFit (pairs_of files.new))
+        (process_at (timeless (state_of one.now)) at) (process_at (timeless (state_of other.now)) at)) }
 {
     let Some(process) = one.whole(at) else {
         return other.whole(at).is_none();
@@ -187,21 +184,26 @@ fn has_same_place<D: BlockDev, T: Translate, E: BlockDev, U: Translate>(
     if !is_same_process(one.ticks(), process, other.ticks(), their) {
         return false;
     }
-    has_same_space(one.spaces(), other.spaces(), at)
+    if !has_same_space(one.spaces(), other.spaces(), at) {
+        return false;
+    }
+    fit_descriptors(files, &process.descriptors, &their.descriptors)
 }
 
-/// Whether two kernels have the same processes, each by its own clock.
-pub fn has_same_places<D: BlockDev, T: Translate, E: BlockDev, U: Translate>(
+/// Whether two kernels have the same processes, each by its own clock, whose descriptors name open files in pairs.
+pub fn fit_places<D: BlockDev, T: Translate, E: BlockDev, U: Translate>(
+    files: &mut Pairs,
     one: &Kernel<D, T>,
     other: &Kernel<E, U>,
 ) -> bool
-    ensures { OnTrue result
-        ((timeless (state_of one.now)).places ≡ (timeless (state_of other.now)).places) }
+    ensures grows { Grows files.old files.new }
+    ensures fits { OnTrue result (EachFits (ProcessesFit (pairs_of files.new))
+        (timeless (state_of one.now)).places (timeless (state_of other.now)).places) }
 {
     one.is_sound();
     other.is_sound();
     for at in 0..PLACES {
-        if !has_same_place(one, other, at) {
+        if !fits_place(files, one, other, at) {
             return false;
         }
     }

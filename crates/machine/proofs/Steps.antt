@@ -20,7 +20,7 @@ use Rattle.std.specs.List.{list_any}
 use Rattle.machine.specs.Saved.{IsLost, IsSaved, LosesDevice}
 use Rattle.unixmodel.specs.OpenFiles.{OpenFile, is_node}
 use Rattle.unixmodel.specs.Reap.{is_used, kept, reap, without_nodes, without_opens, without_pipes}
-use Rattle.digests.specs.Digest.{digest_but_files, digest_of, files_mixed}
+use Rattle.digests.specs.Digest.{digest_but_files, digest_but_numbers, digest_of, files_mixed, numberless_but_files}
 use Rattle.schedules.specs.Alike.{state_set_back, timeless}
 use Rattle.blockdev.specs.Splice.{part}
 use Rattle.inode.specs.declared.InodeStat.{InodeStat}
@@ -289,7 +289,7 @@ pub digest-told : {but digest : ℕ} (k : Kernel) → but ≡ digest_but_files (
 unfolding digest_of
 digest-told k but_is is = is ∙ ap (λ d. files_mixed d k.tree.files) but_is
 
-pub timeless-told : {but digest : ℕ} (k : Kernel) → but ≡ digest_but_files (timeless (state_of k))
-    → digest ≡ files_mixed but k.tree.files → digest ≡ digest_of (timeless (state_of k))
-unfolding digest_of state_set_back
+pub timeless-told : {but digest : ℕ} (k : Kernel) → but ≡ numberless_but_files (timeless (state_of k))
+    → digest ≡ files_mixed but k.tree.files → digest ≡ digest_but_numbers (timeless (state_of k))
+unfolding digest_but_numbers state_set_back
 timeless-told k but_is is = is ∙ ap (λ d. files_mixed d k.tree.files) but_is

@@ -2,8 +2,7 @@
 use Rattle.std.proofs.Common.{[], ap, arith, List, None, Option, refl, Some, subst}
 use Rattle.std.proofs.Common.{suc, sym, true, zero, ℕ, ℤ, ◌+◌, ◌++◌, ◌∙◌, ◌∷◌, ◌≡◌, ◌≤◌}
 use Rattle.std.specs.Prelude.{if◌then◌else◌, is_some}
-use Rattle.orders.proofs.Alike.{idle-alike, late-alike, runs-alike}
-use Rattle.orders.proofs.Plain.{BothAlike}
+use Rattle.orders.proofs.Alike.{BothAlike, idle-alike, late-alike, runs-alike}
 use Rattle.orders.proofs.Runs.{run-goes, run-none, run-stops}
 use Rattle.orders.specs.declared.bounds.Bounds.{Bounds}
 use Rattle.orders.specs.declared.bounds.Missed.{Missed}
@@ -11,7 +10,6 @@ use Rattle.orders.specs.Free.{IsFree, MayCome, keys_after, keys_left}
 use Rattle.orders.specs.Looked.{Tries}
 use Rattle.orders.specs.Paths.{steps}
 use Rattle.orders.specs.Tried.{IsPrompt, IsPromptIn, busy_in, busy_ticks, zero_if_halted}
-use Rattle.schedules.specs.Alike.{Alike}
 use Rattle.unixmodel.specs.declared.event.Event.{Event}
 use Rattle.unixmodel.specs.declared.event.Event.TheVariants.{Key, Step, Tick}
 use Rattle.unixmodel.specs.Calls.{After}
@@ -35,7 +33,7 @@ left-steps keys (suc n) = left-steps keys n
 pub may-come : (keys : List ℕ) (s t : State) (e : Event) → BothAlike s t → MayCome keys s e → MayCome keys t e
 may-come keys s t Step h may = may
 may-come keys s t Tick h may = may
-may-come keys s t (Key b) h may = (may.0, sym (idle-alike s t h.first h.second h.alike) ∙ may.1)
+may-come keys s t (Key b) h may = (may.0, sym (idle-alike s t h) ∙ may.1)
 
 pub free-first : (keys : List ℕ) (s : State) (e : Event) (es : List Event) → IsFree keys s (e ∷ es)
     → MayCome keys s e
@@ -161,20 +159,20 @@ tried-goes b m count s e es goes h = record {
   prompt = λ left. subst (UnlessHalted (next s e).state (λ t. IsPrompt t es)) goes (h.prompt left).1;
 }
 
-pub busy-alike : (s t : State) (e : Event) → Alike s t → busy_in s e ≡ busy_in t e
-busy-alike s t Step alike = refl
-busy-alike s t Tick alike = ap (λ (o : Option ℕ). if is_some o then 1 else 0) (runs-alike s t alike)
-busy-alike s t (Key b) alike = refl
+pub busy-alike : (s t : State) (e : Event) → BothAlike s t → busy_in s e ≡ busy_in t e
+busy-alike s t Step h = refl
+busy-alike s t Tick h = ap (λ (o : Option ℕ). if is_some o then 1 else 0) (runs-alike s t h)
+busy-alike s t (Key b) h = refl
 
 prompt-alike : (s t : State) (e : Event) → BothAlike s t → IsPromptIn s e → IsPromptIn t e
 prompt-alike s t Step h prompt = tt
-prompt-alike s t Tick h prompt = sym (late-alike s t h.first h.second h.alike) ∙ prompt
+prompt-alike s t Tick h prompt = sym (late-alike s t h) ∙ prompt
 prompt-alike s t (Key b) h prompt = tt
 
 -- in a state that is alike, after no more
 pub tries-alike : (b : Bounds) (m : Missed) (c d : ℕ) (s t : State) (e : Event) → BothAlike s t → d ≤ c
     → Tries b m c s e → Tries b m d t e
 tries-alike b m c d s t e h fewer tries = record {
-  few = λ left most bound. omega (arith, tries.few left most bound, busy-alike s t e h.alike, fewer);
+  few = λ left most bound. omega (arith, tries.few left most bound, busy-alike s t e h, fewer);
   prompt = λ left. prompt-alike s t e h (tries.prompt left);
 }

@@ -12,5 +12,8 @@ pub mod Turning
 pub mod Looking
 pub mod Complete
 pub mod Reducing
+pub mod Late
+pub mod Short
 pub mod Tidy
 pub mod TidyRuns
+pub mod Starts

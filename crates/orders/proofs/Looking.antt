@@ -1,6 +1,7 @@
 -- A state that is new is looked at.
 use Rattle.std.proofs.Common.{[], ap, append_assoc, append-nil, arith, inl, inr, List, None, refl, subst, sym, ℕ}
 use Rattle.std.proofs.Common.{◌++◌, ◌∙◌, ◌∷◌, ◌≡◌, ◌⊎◌}
+use Rattle.orders.proofs.Alike.{clock-alike}
 use Rattle.orders.proofs.Free.{busy-then, left-then}
 use Rattle.orders.proofs.Lists.{one-last}
 use Rattle.orders.proofs.Moves.{going-looked, missed-then}
@@ -39,7 +40,7 @@ module _ (keys : List ℕ) (s : State) (p : Path) (law : IdleTickChangesNothing)
         like = record {
           bytes = ap (λ (a : After). a.bytes) more ∙ ap (λ bs. (run s es).bytes ++ bs) (sym alike.bytes)
               ∙ append-nil (run s es).bytes;
-          alike = ap (λ (a : After). timeless a.state) more ∙ sym alike.alike;
+          alike = clock-alike _ _ (ap (λ (a : After). timeless a.state) more ∙ sym alike.alike);
         };
         typed = left-then keys es (Tick ∷ []);
         fewer = (let count = busy-then s es (Tick ∷ []) goes in omega (arith, count));
@@ -57,7 +58,7 @@ module _ (keys : List ℕ) (s : State) (p : Path) (law : IdleTickChangesNothing)
         like = record {
           bytes = ap (λ (a : After). a.bytes) more ∙ ap (λ bs. (run s es).bytes ++ bs) (sym alike.bytes)
               ∙ append-nil (run s es).bytes;
-          alike = ap (λ (a : After). timeless a.state) more ∙ sym alike.alike;
+          alike = clock-alike _ _ (ap (λ (a : After). timeless a.state) more ∙ sym alike.alike);
         };
         typed = ap (λ fs. keys_left keys fs) both ∙ left-then keys es (Tick ∷ Step ∷ []);
         fewer = (let same = ap (λ fs. busy_ticks s fs) both in

@@ -2,6 +2,7 @@
 use Rattle.std.proofs.Common.{[], ap, append-nil, arith, inl, inr, List, None, refl, subst, suc, sym, true, zero}
 use Rattle.std.proofs.Common.{ℕ, ◌++◌, ◌∙◌, ◌∷◌, ◌≡◌, ◌⊎◌}
 use Rattle.std.specs.Prelude.{is_some}
+use Rattle.orders.proofs.Alike.{alike-itself}
 use Rattle.orders.proofs.Free.{busy-none, busy-steps, busy-then, free-none, free-steps, free-then}
 use Rattle.orders.proofs.Lists.{each-each, one-each, one-last, one-more}
 use Rattle.orders.proofs.Plain.{comes-halted, comes-idle, comes-none, comes-over, comes-then}
@@ -289,7 +290,7 @@ module _ (b : Bounds) (keys : List ℕ) (s : State) (up : s.halted ≡ None) (p 
         let cared : KeepsCared b keys s seen (p ∷ todo) told (seen ++ p ∷ []) todo' told' =
         cared-settled b keys s up p seen (p ∷ []) todo todo' told told' opened kept
         (inr (one-last (λ (q : Path). LeadAlike keys s (events_of p) (events_of q)) seen p (record {
-          like = record { bytes = refl; alike = refl };
+          like = record { bytes = refl; alike = alike-itself (run s (events_of p)).state };
           typed = refl;
           fewer = omega arith;
         }))) in

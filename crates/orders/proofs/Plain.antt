@@ -2,13 +2,14 @@
 use Rattle.std.proofs.Common.{[], ap, append-nil, arith, Err, false, List, None, Ok, Option, refl}
 use Rattle.std.proofs.Common.{Some, subst, suc, sym, true, zero, ℕ, ℤ, ◌+◌, ◌++◌, ◌<◌, ◌∙◌, ◌≡◌}
 use Rattle.std.specs.Prelude.{is_some}
-use Rattle.orders.proofs.Alike.{computes-alike}
+use Rattle.orders.proofs.Alike.{BothAlike, alike-back, both-after, computes-alike}
 use Rattle.orders.proofs.Events.{stepped}
 use Rattle.orders.proofs.Runs.{run-goes, run-none, run-over, run-then}
 use Rattle.orders.specs.Looked.{ComesTo, ComputesUpTo, IsPlain, stepped_on}
 use Rattle.orders.specs.Paths.{steps}
 use Rattle.schedules.proofs.Steps.{running-stays, step-private}
-use Rattle.schedules.specs.Alike.{Alike, EventKeepsAlike, HasClock, asks, asks_as, asks_at, asks_in, asks_time}
+use Rattle.renumbering.specs.Alike.{EventKeepsNumbersAlike}
+use Rattle.schedules.specs.Alike.{asks, asks_as, asks_at, asks_in, asks_time}
 use Rattle.schedules.specs.Schedules.{ComputesFor, after_steps, computes, computes_as, computes_in, is_done}
 use Rattle.unixmodel.specs.declared.event.Event.{Event}
 use Rattle.unixmodel.specs.declared.event.Event.TheVariants.{Step}
@@ -83,17 +84,13 @@ steps-goes (suc n) s all =
 
 -- ---- alike states
 
-pub record BothAlike (s t : State) : Type 0 where
-  pub alike : Alike s t
-  pub first : HasClock s
-  pub second : HasClock t
-
-module _ (law : EventKeepsAlike) where
+module _ (law : EventKeepsNumbersAlike) where
   pub step-alike : (s t : State) → BothAlike s t → computes s ≡ true
       → BothAlike (next s Step).state (next t Step).state
   step-alike s t h done =
-      let more = law s t Step h.first h.second h.alike (quiet-time s done) in
-      record { alike = more.alike; first = more.first; second = more.second }
+      let more = law t s Step h.second h.first h.names (alike-back s t h.alike)
+      (quiet-time t (sym (computes-alike s t h) ∙ done)) in
+      both-after (next s Step) (next t Step) more
 
   steps-alike : (n : ℕ) (s t : State) → BothAlike s t → ComputesFor n s
       → BothAlike (after_steps n s) (after_steps n t)
@@ -106,13 +103,13 @@ module _ (law : EventKeepsAlike) where
   computes-for-alike : (n : ℕ) (s t : State) → BothAlike s t → ComputesFor n s → ComputesFor n t
   computes-for-alike n s t h all k less =
       let there = steps-alike k s t h (λ j below. all j (omega (arith, less, below))) in
-      sym (computes-alike (after_steps k s) (after_steps k t) there.alike) ∙ all k less
+      sym (computes-alike (after_steps k s) (after_steps k t) there) ∙ all k less
 
   pub plain-alike : (spin n : ℕ) (s t : State) → BothAlike s t → IsPlain spin t n → IsPlain spin s n
   unfolding IsPlain
   plain-alike spin zero s t h plain = tt
   plain-alike spin (suc n) s t h plain =
-      let done : computes s ≡ true = computes-alike s t h.alike ∙ plain.0 in (
+      let done : computes s ≡ true = computes-alike s t h ∙ plain.0 in (
         done,
         λ endless. plain.1 (computes-for-alike spin s t h endless),
         plain-alike spin n (next s Step).state (next t Step).state (step-alike s t h done) plain.2,

@@ -19,7 +19,9 @@ use Rattle.orders.specs.Tried.{IsPrompt, IsPromptIn, IsTried, busy_in, busy_tick
 use Rattle.orders.specs.Tried.{sleeps_on_in, zero_if_halted}
 use Rattle.schedules.proofs.Turns.{runs-in, turn-timely}
 use Rattle.schedules.proofs.Views.{IsTimely, View, mode_in, places_in, state_in}
-use Rattle.schedules.specs.Alike.{EventKeepsAlike, HasClock, IdleTickChangesNothing}
+use Rattle.renumbering.specs.Alike.{EventKeepsNumbersAlike}
+use Rattle.renumbering.specs.Renumbered.{NamesAreThere}
+use Rattle.schedules.specs.Alike.{HasClock, IdleTickChangesNothing}
 use Rattle.schedules.specs.Coarse.{InterruptsWithinSuffice, Interruption, Reduced, ShowsSame, interruptions, interrupts}
 use Rattle.schedules.specs.Coarse.{none_if_halted, nothing, shown}
 use Rattle.schedules.specs.Holding.{holding}
@@ -40,10 +42,10 @@ use Rattle.unixmodel.specs.Turn.{turn}
 
 -- all but what processes hold
 abbrev bare : ℕ → View
-bare k = record { now = k; clock = k; since = λ number since. since; held = λ i h. nothing }
+bare k = record { now = k; clock = k; since = λ number args since. since; held = λ i h. nothing }
 
 bare-timely : (k : ℕ) → IsTimely (bare k)
-bare-timely k = record { slept = λ since. refl }
+bare-timely k = record { slept = λ w sleeps. refl }
 
 mode-bare : (k : ℕ) (m : Mode) → mode_in (bare k) m ≡ m
 mode-bare k Running = refl
@@ -105,7 +107,7 @@ late-shown s =
 
 -- ---- of interrupts it is seen whether they may come, ..
 
-abbrev FreeBy : List ℕ → List Interruption → Type 0
+abbrev pub FreeBy : List ℕ → List Interruption → Type 0
 FreeBy keys [] = ⊤
 FreeBy keys (i ∷ is) = MayCome keys i.meets i.event × FreeBy (keys_after keys i.event) is
 
@@ -115,7 +117,7 @@ free-later : (keys : List ℕ) (t : State) (es : List Event) (h : Option ℤ)
 free-later keys t es (Some status) rest free = tt
 free-later keys t es None rest free = rest free
 
-free-by : (keys : List ℕ) (s : State) (es : List Event) → IsFree keys s es → FreeBy keys (interruptions s es)
+pub free-by : (keys : List ℕ) (s : State) (es : List Event) → IsFree keys s es → FreeBy keys (interruptions s es)
 unfolding IsFree interruptions
 free-by keys s [] free = tt
 free-by keys s (Step ∷ es) free =
@@ -134,7 +136,7 @@ later-free : (keys : List ℕ) (t : State) (es : List Event) (h : Option ℤ)
 later-free keys t es (Some status) rest free = tt
 later-free keys t es None rest free = rest free
 
-by-free : (keys : List ℕ) (s : State) (es : List Event) → FreeBy keys (interruptions s es) → IsFree keys s es
+pub by-free : (keys : List ℕ) (s : State) (es : List Event) → FreeBy keys (interruptions s es) → IsFree keys s es
 unfolding IsFree interruptions
 by-free keys s [] free = tt
 by-free keys s (Step ∷ es) free =
@@ -221,7 +223,7 @@ by-prompt s (Key b ∷ es) prompt = (
 
 -- ---- all lists
 
-left-interrupts : (keys : List ℕ) (es : List Event) → keys_left keys es ≡ keys_left keys (interrupts es)
+pub left-interrupts : (keys : List ℕ) (es : List Event) → keys_left keys es ≡ keys_left keys (interrupts es)
 unfolding interrupts
 left-interrupts keys [] = refl
 left-interrupts keys (Step ∷ es) = left-interrupts keys es
@@ -243,11 +245,11 @@ wait-shown keys s t same wait = record {
   typed = wait.typed;
 }
 
-over-shown : (keys : List ℕ) (s t : State) → shown s ≡ shown t → IsOver keys s → IsOver keys t
+pub over-shown : (keys : List ℕ) (s t : State) → shown s ≡ shown t → IsOver keys s → IsOver keys t
 over-shown keys s t same (inl ended) = inl (ap is_some (sym (halted-shown s t same)) ∙ ended)
 over-shown keys s t same (inr wait) = inr (wait-shown keys s t same wait)
 
-show-same : (a b : After) → ShowsSame a b → ShowSame b a
+pub show-same : (a b : After) → ShowsSame a b → ShowSame b a
 show-same a b same = record {
   bytes = sym same.bytes;
   status = sym (halted-shown a.state b.state same.state);
@@ -255,8 +257,9 @@ show-same a b same = record {
 }
 
 module _ (b : Bounds) (m : Missed) (keys : List ℕ) (s : State) (seen : List Path) (told : List Outcome)
-    (law : EventKeepsAlike) (idle : IdleTickChangesNothing) (suffice : InterruptsWithinSuffice) (up : s.halted ≡ None)
-    (whole : IsWhole b m keys s seen [] told) (clock : HasClock s) where
+    (law : EventKeepsNumbersAlike) (idle : IdleTickChangesNothing) (suffice : InterruptsWithinSuffice)
+    (up : s.halted ≡ None) (names : NamesAreThere s) (whole : IsWhole b m keys s seen [] told)
+    (clock : HasClock s) where
   reduced-told : (es : List Event) → IsEnding keys s es → IsTried b m s es
       → Reduced (ComputesFor b.spin) s es → IsTold s told (run s es)
   reduced-told es ending tried r =
@@ -265,7 +268,7 @@ module _ (b : Bounds) (m : Missed) (keys : List ℕ) (s : State) (seen : List Pa
       let left : keys_left keys r.coarse ≡ keys_left keys es =
       left-interrupts keys r.coarse ∙ ap (λ is. keys_left keys is) r.same ∙ sym (left-interrupts keys es) in
       told-same s told (run s es) (run s r.coarse) (show-same (run s r.coarse) (run s es) r.shows)
-      (coarse-told b m keys s seen told law idle up whole clock r.coarse
+      (coarse-told b m keys s seen told law idle up names whole clock r.coarse
       (by-free keys s r.coarse (subst (FreeBy keys) (sym r.meet) (free-by keys s es ending.free)))
       (record {
         few = λ on most bound. omega (arith, tried.few on most bound, busy);
@@ -280,12 +283,13 @@ module _ (b : Bounds) (m : Missed) (keys : List ℕ) (s : State) (seen : List Pa
 
 -- the search is at its end
 pub all-tried : (b : Bounds) (keys : List ℕ) (s : State) (seen todo : List Path) (told : List Outcome) (m n : Missed)
-    → EventKeepsAlike → IdleTickChangesNothing → InterruptsWithinSuffice → s.halted ≡ None → HasClock s
+    → EventKeepsNumbersAlike → IdleTickChangesNothing → InterruptsWithinSuffice → s.halted ≡ None → HasClock s
+    → NamesAreThere s
     → IsGoing b keys s seen todo told m → todo ≡ [] → n ≡ m → is_ticks_alone n ≡ true
     → IsCompleteAsTried b n keys s told
-all-tried b keys s seen todo told m n law idle suffice up clock h none same alone =
+all-tried b keys s seen todo told m n law idle suffice up clock names h none same alone =
     subst (λ (k : Missed). IsCompleteAsTried b k keys s told) (sym same)
-    (complete-as-tried b m keys s seen told law idle suffice up
+    (complete-as-tried b m keys s seen told law idle suffice up names
     (subst (λ ps. IsWhole b m keys s seen ps told) none
     (h.whole (subst (λ (k : Missed). is_ticks_alone k ≡ true) same alone))) clock)
 

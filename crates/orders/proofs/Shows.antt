@@ -6,7 +6,7 @@ use Rattle.orders.specs.declared.told.Outcome.{Outcome}
 use Rattle.orders.specs.Ends.{ShowSame, saved_as}
 use Rattle.orders.specs.Paths.{events_of}
 use Rattle.orders.specs.Told.{IsTold}
-use Rattle.schedules.specs.Alike.{Alike}
+use Rattle.renumbering.specs.Alike.{AlikeUpToNumbers}
 use Rattle.unixmodel.specs.Calls.{After}
 use Rattle.unixmodel.specs.Files.{Files, slot}
 use Rattle.unixmodel.specs.Run.{run}
@@ -23,7 +23,7 @@ same-on a b c one two = record {
 }
 
 -- alike states, with the same bytes
-pub same-alike : (a b : After) → a.bytes ≡ b.bytes → Alike a.state b.state → ShowSame a b
+pub same-alike : (a b : After) → a.bytes ≡ b.bytes → AlikeUpToNumbers a.state b.state → ShowSame a b
 same-alike a b bytes alike = record {
   bytes = bytes;
   status = halted-alike a.state b.state alike;

@@ -3,7 +3,7 @@ use Rattle.std.proofs.Common.{[], ap, arith, Bool, false, inl, inr, List, map, N
 use Rattle.std.proofs.Common.{suc, sym, true, zero, ℕ, ℤ, ◌+◌, ◌<◌, ◌∙◌, ◌∷◌, ◌≡◌, ◌⊎◌}
 use Rattle.std.proofs.Math.ListN.{get_or-map}
 use Rattle.std.specs.Prelude.{if◌then◌else◌, negsuc, option_map, slice_set}
-use Rattle.orders.specs.Tidy.{IsTidy}
+use Rattle.orders.specs.Tidy.{IsTableTidy}
 use Rattle.unixmodel.specs.Calls.{end_at, end_if_killed, goes_on, outcome_of, row, settle}
 use Rattle.unixmodel.specs.Console.{Console}
 use Rattle.unixmodel.specs.Counts.{is_within}
@@ -123,7 +123,7 @@ come-map r ps change mild i q at =
 
 -- a table in order, in which nobody runs but in slot r
 pub record TidyAt (r : ℕ) (s : State) : Type 0 where
-  pub tidy : IsTidy s
+  pub tidy : IsTableTidy s
   pub last : s.last ≡ r
 
 pub tidy-from : {r : ℕ} {s : State} (t : State) → TidyAt r s → ComeFrom r s.places t.places → t.next_pid ≡ s.next_pid

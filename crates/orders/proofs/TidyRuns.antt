@@ -10,7 +10,8 @@ use Rattle.orders.proofs.Tidy.{IsMild, TidyAt, end-tidy, goes-on-yields, outcome
 use Rattle.orders.proofs.Tidy.{tidy-change, tidy-own}
 use Rattle.orders.specs.Looked.{IsTurnBack}
 use Rattle.orders.specs.Ends.{is_anyone_asleep}
-use Rattle.orders.specs.Tidy.{IsTidy, StaysTidy}
+use Rattle.orders.specs.Tidy.{IsTableTidy, StaysTidy}
+use Rattle.renumbering.proofs.Starts.{names-stay}
 use Rattle.schedules.proofs.Computing.{ready-after, runner}
 use Rattle.schedules.proofs.Ticks.{tick-interrupts, written-at}
 use Rattle.unixmodel.specs.Calls.{After, call, call_of, entered, goes_on, outcome, quiet, resume}
@@ -102,7 +103,7 @@ execute-at-tidy s r None at h = h
 execute-at-tidy s r (Some p) at h = execute-tidy r s p at h
 
 -- the slot in which a process runs is the one that was picked last
-runs-last : (s : State) (r : ℕ) → IsTidy s → running s ≡ Some r → TidyAt r s
+runs-last : (s : State) (r : ℕ) → IsTableTidy s → running s ≡ Some r → TidyAt r s
 runs-last s r h runs =
     let here = runner s r runs in
     record { tidy = h; last = sym (h.runner r here.0 here.1 here.2) }
@@ -125,8 +126,8 @@ none-runs : (s : State) → running s ≡ None → (i : ℕ) (p : Process) → p
 none-runs s none i p at =
     sym (ap (holds is_running) at) ∙ within-idle s.places none i (taken-within s.places i p at)
 
-pick-tidy : (s : State) (i : ℕ) (o : Option Process) → process_at s i ≡ o → running s ≡ None → IsTidy s
-    → IsTidy (pick s i o).state
+pick-tidy : (s : State) (i : ℕ) (o : Option Process) → process_at s i ≡ o → running s ≡ None → IsTableTidy s
+    → IsTableTidy (pick s i o).state
 pick-tidy s i None at none h = h
 pick-tidy s i (Some p) at none h =
     (picked-tidy i (record s { last = i }) p at (record {
@@ -138,11 +139,11 @@ pick-tidy s i (Some p) at none h =
       last = refl;
     })).tidy
 
-turn-tidy : (s : State) (o : Option ℕ) → running s ≡ None → IsTidy s → IsTidy (take_turn s o).state
+turn-tidy : (s : State) (o : Option ℕ) → running s ≡ None → IsTableTidy s → IsTableTidy (take_turn s o).state
 turn-tidy s None none h = h
 turn-tidy s (Some i) none h = pick-tidy s i (process_at s i) refl none h
 
-step-tidy : (s : State) (o : Option ℕ) → running s ≡ o → IsTidy s → IsTidy (step s o).state
+step-tidy : (s : State) (o : Option ℕ) → running s ≡ o → IsTableTidy s → IsTableTidy (step s o).state
 step-tidy s None none h = turn-tidy s (turn s) none h
 step-tidy s (Some r) runs h = (execute-at-tidy s r (process_at s r) refl (runs-last s r h runs)).tidy
 
@@ -151,23 +152,24 @@ step-tidy s (Some r) runs h = (execute-at-tidy s r (process_at s r) refl (runs-l
 ready-mild : (r i : ℕ) → IsMild r i (with_mode Ready)
 ready-mild r i = record { pid = λ p. refl; runs = λ p on. absurd cc }
 
-stopped-tidy : (s : State) (o : Option ℕ) → IsTidy s → TidyAt s.last (stopped s o)
+stopped-tidy : (s : State) (o : Option ℕ) → IsTableTidy s → TidyAt s.last (stopped s o)
 stopped-tidy s None h = record { tidy = h; last = refl }
 stopped-tidy s (Some r) h =
     tidy-change r (with_mode Ready) (ready-mild s.last r) (record { tidy = h; last = refl })
 
-pub next-tidy : (s : State) (e : Event) → IsTidy s → IsTidy (next s e).state
+pub next-tidy : (s : State) (e : Event) → IsTableTidy s → IsTableTidy (next s e).state
 unfolding next
 next-tidy s Step h = step-tidy s (running s) refl h
 next-tidy s Tick h = (tidy-all _ (stopped-tidy s (running s) h) refl refl refl).tidy
 next-tidy s (Key k) h = (tidy-all _ (record { tidy = h; last = refl }) refl refl refl).tidy
 
-followed-tidy : (a : After) (rest : State → After) (o : Option ℤ) → IsTidy a.state → IsTidy (rest a.state).state
-    → IsTidy (followed_by a rest o).state
+followed-tidy : (a : After) (rest : State → After) (o : Option ℤ) → IsTableTidy a.state
+    → IsTableTidy (rest a.state).state
+    → IsTableTidy (followed_by a rest o).state
 followed-tidy a rest (Some status) here later = here
 followed-tidy a rest None here later = later
 
-run-tidy : (s : State) (events : List Event) → IsTidy s → IsTidy (run s events).state
+run-tidy : (s : State) (events : List Event) → IsTableTidy s → IsTableTidy (run s events).state
 unfolding run
 run-tidy s [] h = h
 run-tidy s (e ∷ events) h =
@@ -190,7 +192,7 @@ first-alone p (suc i) q at = absurd (none-free 63 i q at)
 
 first-tidy : (files : Files) (blocks frames : ℕ) (opens : List (Option OpenFile)) (new : Plan)
     (descriptors : List (Option ℕ))
-    → IsTidy (first_state files blocks frames opens (first_process new descriptors))
+    → IsTableTidy (first_state files blocks frames opens (first_process new descriptors))
 first-tidy files blocks frames opens new descriptors =
     let p = first_process new descriptors in
     record {
@@ -201,68 +203,81 @@ first-tidy files blocks frames opens new descriptors =
           let runs : is_running p ≡ true = ap is_running (first-alone p i q at).1 ∙ on in cc);
     }
 
-started : (make : Plan → State) (o : Option Plan) (s : State) → ((new : Plan) → IsTidy (make new))
-    → option_and_then (λ new. if_fits (make new)) o ≡ Some s → IsTidy s
+started : (make : Plan → State) (o : Option Plan) (s : State) → ((new : Plan) → IsTableTidy (make new))
+    → option_and_then (λ new. if_fits (make new)) o ≡ Some s → IsTableTidy s
 started make None s tidy is = absurd cc
 started make (Some new) s tidy is =
-    subst IsTidy (cond_some (nat_le (frames_of (make new)) (make new).frame_limit) (make new) s is).1 (tidy new)
+    subst IsTableTidy (cond_some (nat_le (frames_of (make new)) (make new).frame_limit) (make new) s is).1 (tidy new)
 
-start-tidy : (files : Files) (blocks frames : ℕ) (s : State) → start files blocks frames ≡ Some s → IsTidy s
+start-tidy : (files : Files) (blocks frames : ℕ) (s : State) → start files blocks frames ≡ Some s → IsTableTidy s
 unfolding start
 start-tidy files blocks frames s is =
     started _ (init_plan files) s (λ new. first-tidy files blocks frames _ new no_descriptors) is
 
-start-flat-tidy : (bytes : List ℕ) (frames : ℕ) (s : State) → start_flat bytes frames ≡ Some s → IsTidy s
+start-flat-tidy : (bytes : List ℕ) (frames : ℕ) (s : State) → start_flat bytes frames ≡ Some s → IsTableTidy s
 unfolding start_flat
 start-flat-tidy bytes frames s is = started _ (plan_flat bytes) s (λ new. first-tidy _ _ frames _ new _) is
 
 pub stays-tidy : StaysTidy
-stays-tidy = record { starts = start-tidy; starts_flat = start-flat-tidy; stays = run-tidy }
+stays-tidy = record {
+  starts = λ files blocks frames s is. record {
+    table = start-tidy files blocks frames s is;
+    names = names-stay.starts files blocks frames s is;
+  };
+  starts_flat = λ bytes frames s is. record {
+    table = start-flat-tidy bytes frames s is;
+    names = names-stay.starts_flat bytes frames s is;
+  };
+  stays = λ s events h. record {
+    table = run-tidy s events h.table;
+    names = names-stay.stays s events h.names;
+  };
+}
 
 -- ---- a turn that is given back
 
-module _ (s : State) (h : IsTidy s) (i : ℕ) (p : Process) (runs : running s ≡ Some i) (at : process_at s i ≡ Some p)
-  where
-    last : s.last ≡ i
-    last = (runs-last s i h runs).last
+module _ (s : State) (h : IsTableTidy s) (i : ℕ) (p : Process) (runs : running s ≡ Some i)
+    (at : process_at s i ≡ Some p) where
+  last : s.last ≡ i
+  last = (runs-last s i h runs).last
 
-    ready : process_at (next s Tick).state i ≡ Some (with_mode Ready p)
-    ready = ready-after s i p runs at
+  ready : process_at (next s Tick).state i ≡ Some (with_mode Ready p)
+  ready = ready-after s i p runs at
 
-    after : IsTidy (next s Tick).state
-    after = next-tidy s Tick h
+  after : IsTableTidy (next s Tick).state
+  after = next-tidy s Tick h
 
-    last-after : (next s Tick).state.last ≡ i
-    unfolding next
-    last-after = ap (λ (t : State). t.last) (tick-interrupts s i p runs at) ∙ last
+  last-after : (next s Tick).state.last ≡ i
+  unfolding next
+  last-after = ap (λ (t : State). t.last) (tick-interrupts s i p runs at) ∙ last
 
-    -- after the tick nobody runs
-    none-after : running (next s Tick).state ≡ None
-    none-after = by (running (next s Tick).state) refl
-      where
-        by : (o : Option ℕ) → running (next s Tick).state ≡ o → o ≡ None
-        by None is = refl
-        by (Some k) is =
-            let who = runner (next s Tick).state k is in
-            let here : k ≡ i = after.runner k who.0 who.1 who.2 ∙ last-after in
-            let same : Some (with_mode Ready p) ≡ Some who.0 =
-            sym ready ∙ ap (process_at (next s Tick).state) (sym here) ∙ who.1 in
-            let on : is_running (with_mode Ready p) ≡ is_running who.0 =
-            ap (holds is_running) same in
-            absurd (false≢true (on ∙ who.2))
+  -- after the tick nobody runs
+  none-after : running (next s Tick).state ≡ None
+  none-after = by (running (next s Tick).state) refl
+    where
+      by : (o : Option ℕ) → running (next s Tick).state ≡ o → o ≡ None
+      by None is = refl
+      by (Some k) is =
+          let who = runner (next s Tick).state k is in
+          let here : k ≡ i = after.runner k who.0 who.1 who.2 ∙ last-after in
+          let same : Some (with_mode Ready p) ≡ Some who.0 =
+          sym ready ∙ ap (process_at (next s Tick).state) (sym here) ∙ who.1 in
+          let on : is_running (with_mode Ready p) ≡ is_running who.0 =
+          ap (holds is_running) same in
+          absurd (false≢true (on ∙ who.2))
 
-    -- where the pid of the process that is picked is that of the one that ran
-    pub given-back : p.killed ≡ false → is_anyone_asleep s ≡ false → (j : ℕ) (q : Process)
-        → turn (next s Tick).state ≡ Some j → process_at (next s Tick).state j ≡ Some q → q.pid ≡ p.pid
-        → IsTurnBack s
-    given-back alive awake j q turns there same = record {
-      place = i;
-      process = p;
-      runs = runs;
-      there = at;
-      alive = alive;
-      last = last;
-      awake = awake;
-      again = ap (picked_unless (next s Tick).state) none-after ∙ turns
-          ∙ ap Some (after.apart j i q (with_mode Ready p) there ready same);
-    }
+  -- where the pid of the process that is picked is that of the one that ran
+  pub given-back : p.killed ≡ false → is_anyone_asleep s ≡ false → (j : ℕ) (q : Process)
+      → turn (next s Tick).state ≡ Some j → process_at (next s Tick).state j ≡ Some q → q.pid ≡ p.pid
+      → IsTurnBack s
+  given-back alive awake j q turns there same = record {
+    place = i;
+    process = p;
+    runs = runs;
+    there = at;
+    alive = alive;
+    last = last;
+    awake = awake;
+    again = ap (picked_unless (next s Tick).state) none-after ∙ turns
+        ∙ ap Some (after.apart j i q (with_mode Ready p) there ready same);
+  }

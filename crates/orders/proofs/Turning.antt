@@ -3,8 +3,7 @@ use Rattle.std.proofs.Common.{[], ap, arith, Bool, false, List, None, Option, re
 use Rattle.std.proofs.Common.{zero, ℕ, ◌∙◌, ◌∷◌, ◌≡◌}
 use Rattle.std.specs.List.{list_any}
 use Rattle.std.specs.Prelude.{is_none, ◌&&◌, ◌||◌}
-use Rattle.orders.proofs.Alike.{asleep-alike, halted-alike, idle-alike, runs-alike}
-use Rattle.orders.proofs.Plain.{BothAlike}
+use Rattle.orders.proofs.Alike.{BothAlike, asleep-alike, halted-alike, idle-alike, runs-alike}
 use Rattle.orders.specs.Ends.{is_anyone_asleep, is_asleep}
 use Rattle.orders.specs.Looked.{IsDue, IsTurnBack}
 use Rattle.schedules.proofs.Ticks.{interrupted, tick-interrupts}
@@ -63,13 +62,13 @@ unfolding asks_time
 none-asks s none = ap (asks_at s) none
 
 -- a turn that is due is so in a state that is alike
-pub due-alike : (s t : State) → BothAlike s t → IsDue s → IsDue t
+pub due-alike : (s t : State) → BothAlike s t → IsDue t → IsDue s
 due-alike s t both h = record {
-  goes = sym (halted-alike s t both.alike) ∙ h.goes;
-  clock = both.second;
-  none = sym (runs-alike s t both.alike) ∙ h.none;
-  awake = sym (asleep-alike s t both.alike) ∙ h.awake;
-  due = sym (idle-alike s t both.first both.second both.alike) ∙ h.due;
+  goes = halted-alike s t both.alike ∙ h.goes;
+  clock = both.first;
+  none = runs-alike s t both ∙ h.none;
+  awake = asleep-alike s t both.alike ∙ h.awake;
+  due = idle-alike s t both ∙ h.due;
 }
 
 -- ---- a tick after which the turn is given back

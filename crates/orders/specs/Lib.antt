@@ -6,3 +6,4 @@ pub mod Paths
 pub mod Told
 pub mod Looked
 pub mod Tidy
+pub mod Starts

@@ -11,7 +11,8 @@ use Rattle.orders.specs.Missed.{is_ticks_alone}
 use Rattle.orders.specs.Paths.{events_of, steps, typed_in}
 use Rattle.orders.specs.Told.{Each, IsSound, IsTold, One, runs_in}
 use Rattle.orders.specs.Tried.{IsPromptIn, busy_in, busy_ticks}
-use Rattle.schedules.specs.Alike.{Alike, HasClock, asks_time}
+use Rattle.renumbering.specs.Alike.{AlikeUpToNumbers}
+use Rattle.schedules.specs.Alike.{HasClock, asks_time}
 use Rattle.schedules.specs.Schedules.{ComputesFor, after_steps, computes}
 use Rattle.unixmodel.specs.declared.event.Event.{Event}
 use Rattle.unixmodel.specs.declared.event.Event.TheVariants.{Key, Step, Tick}
@@ -47,10 +48,10 @@ stepped_on n a = record { state = after_steps n a.state; bytes = a.bytes }
 
 -- ---- what was looked at
 
--- the same is printed, and the states are alike
+-- the same is printed, and the states are alike up to the numbers of open files and pipes
 pub record IsLike (a b : After) : Type 0 where
   pub bytes : a.bytes ≡ b.bytes
-  pub alike : Alike a.state b.state
+  pub alike : AlikeUpToNumbers a.state b.state
 
 -- what two lists of events lead to is alike, with the same left to type; the other one has no more timer interrupts
 pub record LeadAlike (keys : List ℕ) (s : State) (es fs : List Event) : Type 0 where

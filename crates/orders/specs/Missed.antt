@@ -9,3 +9,7 @@ is_nothing m = not (m.ticks || m.states || m.uptime || m.late || m.stopped)
 -- nothing but timer interrupts beyond the bound, and late ones
 abbrev pub is_ticks_alone : Missed → Bool
 is_ticks_alone m = not (m.states || m.uptime || m.stopped)
+
+-- nothing but late ones
+abbrev pub is_late_alone : Missed → Bool
+is_late_alone m = not (m.ticks || m.states || m.uptime || m.stopped)

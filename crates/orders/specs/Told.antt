@@ -1,9 +1,10 @@
 -- What a search tells: outcomes, each with the events that lead to it; and what it means that these are all.
-use Rattle.std.specs.Prelude.{List, [], suc, zero, ℕ, ⊤, ◌+◌, ◌<◌, ◌∷◌, ◌≡◌, ◌⊎◌}
+use Rattle.std.specs.Prelude.{List, [], false, suc, zero, ℕ, ⊤, ◌+◌, ◌<◌, ◌^◌, ◌∷◌, ◌≡◌, ◌⊎◌}
 use Rattle.orders.specs.declared.bounds.Bounds.{Bounds}
 use Rattle.orders.specs.declared.bounds.Missed.{Missed}
 use Rattle.orders.specs.declared.told.Outcome.{Outcome}
-use Rattle.orders.specs.Ends.{IsEnding, ShowSame}
+use Rattle.lateness.specs.Late.{ticks_in}
+use Rattle.orders.specs.Ends.{IsEnding, ShowSame, is_anyone_asleep}
 use Rattle.orders.specs.Paths.{events_of}
 use Rattle.orders.specs.Tried.{IsTried}
 use Rattle.unixmodel.specs.declared.event.Event.{Event}
@@ -60,3 +61,9 @@ IsComplete keys s told = (es : List Event) → IsEnding keys s es → IsTold s t
 abbrev pub IsCompleteAsTried : Bounds → Missed → List ℕ → State → List Outcome → Type 0
 IsCompleteAsTried b m keys s told =
     (es : List Event) → IsEnding keys s es → IsTried b m s es → IsTold s told (run s es)
+
+-- The same, if late ones come too, where no process sleeps at the beginning, and fewer than 2^32 timer interrupts come:
+-- how long a sleep has lasted is counted modulo 2^32.
+abbrev pub IsCompleteIfShort : List ℕ → State → List Outcome → Type 0
+IsCompleteIfShort keys s told = is_anyone_asleep s ≡ false
+    → (es : List Event) → IsEnding keys s es → ticks_in es < 2 ^ 32 → IsTold s told (run s es)

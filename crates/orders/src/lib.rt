@@ -16,7 +16,7 @@ mod told;
 mod walker;
 
 pub use bounds::{Bounds, Missed, Task, Trouble};
-pub use laws::tables_stay_tidy;
+pub use laws::{nobody_sleeps_at_a_start, tables_stay_tidy};
 pub use paths::{Interrupt, Path, Piece};
 pub use progress::{Progress, Standing, Unwatched};
 pub use search::{Found, find_outcomes};

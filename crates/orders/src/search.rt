@@ -4,9 +4,10 @@ ghost use Rattle.orders.specs.Ends.{AllWait, ShowSame};
 ghost use Rattle.orders.specs.Free.{keys_left};
 ghost use Rattle.orders.specs.Looked.{ComesTo, IsAtBound, IsDue, IsGoing, IsKnownAt, IsLikeAt, NotesTime};
 ghost use Rattle.orders.specs.Looked.{OpensKey, OpensStep, OpensTick, TakesTurn, TellsAt, TellsWaiting};
-ghost use Rattle.orders.specs.Missed.{is_nothing, is_ticks_alone};
+ghost use Rattle.orders.specs.Missed.{is_late_alone, is_nothing, is_ticks_alone};
 ghost use Rattle.orders.specs.Paths.{events_of};
-ghost use Rattle.orders.specs.Told.{Each, IsComplete, IsCompleteAsTried, IsSound, IsTold};
+ghost use Rattle.orders.specs.Told.{Each, IsComplete, IsCompleteAsTried, IsCompleteIfShort, IsSound, IsTold};
+ghost use Rattle.renumbering.specs.Renumbered.{NamesAreThere};
 ghost use Rattle.schedules.specs.Alike.{HasClock};
 ghost use Rattle.unixmodel.specs.Run.{run};
 ghost use Rattle.unixmodel.specs.State.{State, running};
@@ -493,6 +494,7 @@ fn visit_next<W: Walker>(
 fn begin<W: Walker>(alloc: Global, walker: &mut W) -> Result<(), Trouble>
     ensures up { OnOk result ((W.start walker.old).halted ≡ None) }
     ensures clock { OnOk result (HasClock (W.start walker.old)) }
+    ensures names { OnOk result (NamesAreThere (W.start walker.old)) }
     ensures start { W.start walker.new ≡ W.start walker.old }
 {
     let status = walker.go(&Path::new(alloc))?;
@@ -500,6 +502,7 @@ fn begin<W: Walker>(alloc: Global, walker: &mut W) -> Result<(), Trouble>
         return Err(Trouble::Machine);
     }
     walker.has_clock();
+    walker.names_are_there();
     Ok(())
 }
 
@@ -538,7 +541,8 @@ fn with_rest(todo: &VecDeque<Path>, missed: Missed) -> Missed
 /// Goes along all orders of events from where two walkers began, with bytes typed where nobody is ready, and looks at
 /// each state once. Each outcome is what its events lead to. Where nothing was left out these are all: whatever timer
 /// interrupts come, and wherever, a run at whose end process 1 has ended or all wait shows what one of the outcomes
-/// shows. Where timer interrupts alone were left out, so it is of the runs in which none of these come.
+/// shows. Where timer interrupts alone were left out, so it is of the runs in which none of these come. Where late ones
+/// alone were, and no process sleeps at the beginning, so it is of all runs with fewer than 2^32 timer interrupts.
 ///
 /// Where the search is stopped, what is open is left out. `Machine` where process 1 had ended before.
 pub fn find_outcomes<W: Walker, P: Progress>(
@@ -555,13 +559,17 @@ pub fn find_outcomes<W: Walker, P: Progress>(
         → IsComplete task.entry.keys.now (W.start walker.old) found.outcomes.items) }
     ensures tried { IfOk result (λ found. is_ticks_alone found.missed ≡ true → IsCompleteAsTried task.entry.bounds
         found.missed task.entry.keys.now (W.start walker.old) found.outcomes.items) }
+    ensures short { IfOk result (λ found. is_late_alone found.missed ≡ true
+        → IsCompleteIfShort task.entry.keys.now (W.start walker.old) found.outcomes.items) }
     ensures start { OnOk result (W.start walker.new ≡ W.start walker.old) }
     ensures other_start { OnOk result (W.start other.new ≡ W.start other.old) }
 {
     begin(alloc, walker)?;
-    schedules::alike_goes_on_alike();
+    renumbering::alike_up_to_numbers_goes_on_alike();
     schedules::interrupts_before_calls_suffice();
     schedules::idle_tick_changes_nothing();
+    lateness::late_goes_on_alike();
+    lateness::late_tick_never_shows();
     let mut search = Search {
         todo: VecDeque::new(alloc),
         seen: Seen::new(alloc),

@@ -5,6 +5,7 @@ ghost use Rattle.orders.specs.Free.{is_idle};
 ghost use Rattle.orders.specs.Looked.{ComputesUpTo, IsLike, IsTurnBack, stepped_on};
 ghost use Rattle.orders.specs.Paths.{events_of};
 ghost use Rattle.orders.specs.Tried.{is_time_awaited};
+ghost use Rattle.renumbering.specs.Renumbered.{NamesAreThere};
 ghost use Rattle.schedules.specs.Alike.{HasClock, asks_time};
 ghost use Rattle.unixmodel.specs.declared.event.Event.TheVariants.{Step};
 ghost use Rattle.unixmodel.specs.Calls.{After};
@@ -63,12 +64,17 @@ pub trait Walker {
     fn has_clock(&self)
         ensures { HasClock (reached self.now).state };
 
+    /// Where it began each descriptor names an open file that is there, and each open file on a pipe one that is there.
+    fn names_are_there(&self)
+        ensures { NamesAreThere (start self.now) };
+
     /// A number of the state without its clock, to find those that may be like it.
     fn digest(&mut self) -> Result<u64, Trouble>
         ensures reached { OnOk result (reached self.new ≡ reached self.old) }
         ensures start { start self.new ≡ start self.old };
 
-    /// Whether another one printed the same and came to a state that is alike: a yes is right.
+    /// Whether another one printed the same and came to a state that is alike, except that the clocks, and the numbers
+    /// of open files and pipes, may differ: a yes is right.
     fn is_like(&mut self, other: &mut Self) -> Result<bool, Trouble>
         ensures like { IfOk result (λ yes. yes ≡ true → IsLike (reached self.old) (reached other.old)) }
         ensures reached { OnOk result (reached self.new ≡ reached self.old) }

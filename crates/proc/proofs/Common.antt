@@ -5,7 +5,7 @@ pub use Rattle.std.proofs.Common.{slice_set, Some, subst, suc, sym, take, true, 
 pub use Rattle.std.proofs.lemmas.Bool.{cases_eq, cases_lt, eq-eqb, le-ltb, leb-true, lt-ltb, ne_eqb, true≢false}
 pub use Rattle.std.proofs.lemmas.List.{ext_get_or, get_or-set_other, get_or-set_same, set_past, take_all}
 pub use Rattle.std.specs.List.{list_any, position_or_len, refill}
-pub use Rattle.std.specs.Prelude.{bit_and, bit_or, cond, Err, if◌then◌else◌, nat_le, nat_lt, not, position, ◌||◌}
+pub use Rattle.std.specs.Prelude.{bit_and, bit_or, cond, if◌then◌else◌, nat_le, nat_lt, not, position, ◌||◌}
 pub use Rattle.unixmodel.specs.Files.{free_slot, slot}
 pub use Rattle.unixmodel.specs.State.{holds}
 pub use Rattle.proc.specs.Mask.{is_in, IsFirstFrom, IsNext, NoneFrom, NoneIsIn}

@@ -2,7 +2,7 @@
 use Rattle.proc.proofs.Common.{Bool, List, [], arith, false, get_or, inl, inr, length, refl, subst, suc, true, zero, ℕ}
 use Rattle.proc.proofs.Common.{◌+◌, ◌<◌, ◌∷◌, ◌≡◌, ◌≤◌, slice_set, cases_lt, get_or-set_same, IsNext, NoneIsIn, all_in}
 use Rattle.proc.proofs.Common.{is_in, IsFirst, NoneSays, place_in_round, None, Ok, Option, Some, ap, map, option_map}
-use Rattle.proc.proofs.Common.{sym, ◌-◌, ◌∙◌, Err, if◌then◌else◌, nat_le, refill, leb-true, true≢false, IsFirstFrom}
+use Rattle.proc.proofs.Common.{sym, ◌-◌, ◌∙◌, if◌then◌else◌, nat_le, refill, leb-true, true≢false, IsFirstFrom}
 use Rattle.proc.proofs.Common.{NoneFrom, Places, is_child_of, orphaned, seat_at, seat_of, AreWithin, IsFirstWaiting}
 use Rattle.proc.proofs.Common.{IsWithin, NoneWaits, waits_so, with_place, Process, Inside, WaitPlaces, free_slot, slot}
 use Rattle.proc.proofs.Common.{holds, take, cond, is_some, position, ◌==◌, ◌||◌, list_any, eq-eqb, le-ltb, lt-ltb}
@@ -10,7 +10,6 @@ use Rattle.proc.proofs.Common.{ne_eqb, take_all, IsNextOf, lesser, has_pid, plac
 use Rattle.std.proofs.Common.{Global, length-set, Vec}
 use Rattle.std.proofs.lemmas.List.{length-map, with_items_is}
 use Rattle.proc.specs.Sound.{IsSound}
-use Rattle.proc.specs.declared.table.ProcFault.TheVariants.{Pids}
 use Rattle.proc.specs.declared.table.Seat.{Seat}
 use Rattle.proc.specs.declared.waits.WaitKind.{WaitKind}
 use Rattle.proc.specs.declared.waits.WaitKind.TheVariants.{Child, Time, Transfer}
@@ -308,17 +307,31 @@ module _ {t : Inside} (is : IsSound t) where
       sound-as mapped (length-map t.places.items (option_map (orphaned pid))) is.pids refl
       (within-orphaned is.waiting _)
 
--- the pid of a new seat is a valid one
-pub seat-pid : (t : Places) {seat : Seat} → Ok seat ≡ seat_of t → t.next_pid ≤ 2147483647
-seat-pid t {seat} is = go (free_slot t.places) is where
-  at : (b : Bool) (i : ℕ) → (b ≡ true → t.next_pid ≤ 2147483647)
-      → Ok seat ≡ (if b then Ok (record { place = i; pid = t.next_pid }) else Err Pids) → t.next_pid ≤ 2147483647
-  at true i low same = low refl
-  at false i low same = absurd (cc)
+-- the seat of a new process
+pub record IsSeat (t : Places) (seat : Seat) : Type 0 where
+  pub free : free_slot t.places ≡ Some seat.place
+  pub pid : seat.pid ≡ t.next_pid
+  pub left : nat_le t.next_pid last_pid ≡ true
 
-  go : (o : Option ℕ) → Ok seat ≡ seat_at t.next_pid o → t.next_pid ≤ 2147483647
-  go None same = absurd (cc)
-  go (Some i) same = at (nat_le t.next_pid last_pid) i (leb-true t.next_pid last_pid) same
+pub seat-is : (t : Places) (seat : Seat) → seat_of t ≡ Ok seat → IsSeat t seat
+seat-is t seat is = go _ _ refl refl is where
+  go : (o : Option ℕ) (b : Bool) → free_slot t.places ≡ o → nat_le t.next_pid last_pid ≡ b
+      → seat_at t.next_pid o ≡ Ok seat → IsSeat t seat
+  go None b free left is = absurd (cc)
+  go (Some i) false free left is = let e = rw left at is in absurd (cc)
+  go (Some i) true free left is =
+      let e = rw left at is in
+      let made : Seat = record { place = i; pid = t.next_pid } in
+      let same : made ≡ seat = cc in
+      record {
+        free = free ∙ ap (λ (s : Seat). Some s.place) same;
+        pid = sym (ap (λ (s : Seat). s.pid) same);
+        left = left;
+      }
+
+-- its pid is a valid one
+pub seat-pid : (t : Places) (seat : Seat) → seat_of t ≡ Ok seat → t.next_pid ≤ 2147483647
+seat-pid t seat is = leb-true t.next_pid last_pid (seat-is t seat is).left
 
 -- ---- the least pid above another, found by a walk over the slots
 

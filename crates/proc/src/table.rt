@@ -500,13 +500,21 @@ impl Table {
         ensures err { OnErr result (self.new ≡ self.old) }
     {
         let seat = self.next_seat()?;
+        self.take_seat(process, seat);
+        Ok(seat)
+    }
+
+    /// Puts a process in the next seat.
+    pub fn take_seat(&mut self, process: Process, seat: Seat)
+        requires { seat_of self.old ≡ Ok seat }
+        ensures { self.new ≡ seated self.old process seat }
+    {
         self.waiting.set(seat.place);
         self.places[seat.place] = Some(Process {
             pid: seat.pid,
             ..process
         });
         self.next_pid += 1;
-        Ok(seat)
     }
 
     /// The process in a slot ends: it gives up its descriptors and its directory, and becomes a zombie with this

@@ -132,7 +132,7 @@ asks-renumbered s t e alike = asks-made (process_moved alike.files) (λ p. refl)
     (does-same (process_moved alike.files) (λ p. refl)) (λ p. refl) s t
     (ap (λ (u : State). u.places) alike.rest) e
 
-asks-alike : (s t : State) (e : Event) → AlikeUpToNumbers s t → asks_time s e ≡ false → asks_time t e ≡ false
+pub asks-alike : (s t : State) (e : Event) → AlikeUpToNumbers s t → asks_time s e ≡ false → asks_time t e ≡ false
 asks-alike s t e alike quiet =
     sym (asks-back t e) ∙ asks-renumbered (timeless s) (timeless t) e alike ∙ asks-back s e ∙ quiet
 

@@ -1,4 +1,7 @@
 //! The report of a run, as a text.
+ghost use Rattle.std.specs.Prelude.{◌+◌, ◌≡◌};
+ghost use Rattle.unixmodel.specs.Counts.{page_frames};
+ghost use Rattle.unixmodel.specs.Numbers.{ceil_div};
 
 use crate::last_calls::LastCalls;
 use crate::outcome::Stop;
@@ -24,7 +27,9 @@ pub struct Report<'a, D: BlockDev, T: Translate> {
 }
 
 /// How many frames a process of `size` bytes takes.
-pub(crate) fn frames_of(size: u64) -> u64 {
+pub(crate) fn frames_of(size: u64) -> u64
+    ensures { result ≡ 4 + page_frames (ceil_div size 4096) }
+{
     let pages = size.div_ceil(4096);
     let root = if pages > 0 { 1 } else { 0 };
     4u64.saturating_add(pages)

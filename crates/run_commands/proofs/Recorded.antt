@@ -25,8 +25,9 @@ use Rattle.events.specs.declared.row.Row.{Row}
 use Rattle.events.specs.declared.row.Row.TheVariants as row
 use Rattle.host.specs.Files.{Appends, HostFiles, Writes, with_end, with_file}
 use Rattle.host.specs.declared.report.Failure.{Failure}
-use Rattle.run_commands.specs.ScriptFiles.{AreLines, HoldsScript, IsAllWritten, IsEmptyIn, IsSound, IsSoundOf, Puts}
-use Rattle.run_commands.specs.ScriptFiles.{Takes, kept_in, kept_of, lines_at, new_in, stored}
+use Rattle.run_commands.specs.ScriptFiles.{AreLines, HoldsScript, IsAllWritten, IsEmptyIn, IsSound, IsSoundOf}
+use Rattle.run_commands.specs.ScriptFiles.{IsWrittenOut, Puts, Recorder, Takes, kept_in, kept_of, lines_at, new_in}
+use Rattle.run_commands.specs.ScriptFiles.{stored}
 use Rattle.run_commands.specs.declared.script_file.ScriptFile.{ScriptFile}
 use Rattle.unixmodel.specs.declared.event.Event.{Event}
 use Rattle.unixmodel.specs.declared.event.Event.TheVariants as event
@@ -423,3 +424,25 @@ pub keys-all : (keys : List ℕ) (i : ℕ) {a b : Option HostFiles} {f g : Scrip
     → Takes a b f g (take i (map event.Key keys)) → Takes a b f g (map event.Key keys)
 keys-all keys i {a} {b} {f} {g} all taken =
     subst (λ es. Takes a b f g es) (take_all i (map event.Key keys) (rw (length-map keys event.Key) all)) taken
+
+-- ---- what a scribe has
+
+pub written_none : (r : Recorder) → IsWrittenOut r r
+written_none r = record { records = records-none r.kept; name = refl; host = refl }
+
+pub written_then : (a b c : Recorder) → IsWrittenOut a b → IsWrittenOut b c → IsWrittenOut a c
+written_then a b c one two = record {
+  records = records-then a.kept b.kept c.kept [] [] one.records two.records;
+  name = two.name ∙ one.name;
+  host = two.host ∙ one.host;
+}
+
+pub written_as : (a b c : Recorder) → IsWrittenOut a b → c ≡ b → IsWrittenOut a c
+written_as a b c written same = rw same written
+
+-- a file that was made of no bytes is empty
+pub begun_empty : (name : Option (Bor (List ℕ))) (old new : Option HostFiles)
+    → IfSome name (λ n. Writes n.now [] old new) → IsEmptyIn name new
+begun_empty None old new made = tt
+begun_empty (Some name) None new made = rw made tt
+begun_empty (Some name) (Some files) new made = rw made (made-there files name.now [])

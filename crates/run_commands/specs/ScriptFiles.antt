@@ -101,3 +101,9 @@ recorder held host file = record { kept = kept_in held file; name = name_of file
 -- one of no events
 abbrev pub new_recorder : Option HostFiles → ℕ → Option (Bor (List ℕ)) → Recorder
 new_recorder held host name = record { kept = new_in held name; name = name_of name; host = host }
+
+-- no event more is recorded, and what is recorded may be lost
+pub record IsWrittenOut (old new : Recorder) : Type 0 where
+  pub records : Records old.kept new.kept []
+  pub name : new.name ≡ old.name
+  pub host : new.host ≡ old.host

@@ -1,10 +1,10 @@
 //! What records the script of a play or a session in a file of a host, as it goes.
-ghost use Rattle.std.specs.Prelude.{◌≡◌};
-ghost use Rattle.run_commands.specs.ScriptFiles.{IsSound, new_recorder, recorder};
+ghost use Rattle.std.specs.Prelude.{IfOk, IfSome, length, ◌≡◌, ◌≤◌};
+ghost use Rattle.run_commands.specs.ScriptFiles.{IsEmptyIn, IsSound, IsWrittenOut, new_recorder, recorder};
 
 use crate::script_file::ScriptFile;
 use events::Record;
-use host::Host;
+use host::{Host, HostFault, Why};
 use std::alloc::Global;
 use std::marker::Model;
 
@@ -36,6 +36,55 @@ impl<'a, 'b, H: Host> Scribe<'a, 'b, H> {
             host,
             file: ScriptFile::new(alloc, name),
         }
+    }
+
+    /// The same, whose file is there, and is empty.
+    pub fn begun(alloc: Global, host: &'b mut H, name: Option<&'a str>) -> Self
+        requires { IsEmptyIn name (H.files host.old) }
+        ensures { result ≡ new_recorder (H.files host.old) host.entry.ghost_name name.entry }
+    {
+        Scribe {
+            host,
+            file: ScriptFile::begun(alloc, name),
+        }
+    }
+
+    /// Ends the line to which events still come.
+    pub fn end_line(&mut self)
+        ensures { IsWrittenOut self.old self.new }
+    {
+        self.file.end_line(&mut *self.host);
+    }
+
+    /// Writes the lines that wait.
+    pub fn write_out(&mut self)
+        ensures { IsWrittenOut self.old self.new }
+    {
+        self.file.write_out(&mut *self.host);
+    }
+
+    /// Reads what is typed at the host.
+    pub fn type_in(
+        &mut self,
+        bytes: &mut [u8],
+        is_terminal: bool,
+    ) -> Result<Option<usize>, HostFault>
+        ensures count { IfOk result (λ typed. IfSome typed (λ count. count ≤ length bytes.old)) }
+        ensures same { self.new ≡ self.old }
+    {
+        self.host.type_in(bytes, is_terminal)
+    }
+
+    /// Whether a second has passed since that.
+    pub fn is_due(&mut self) -> bool
+        ensures { self.new ≡ self.old }
+    {
+        self.host.is_due()
+    }
+
+    /// Why the host could not read or write.
+    pub fn why(&self) -> Why {
+        self.host.why()
     }
 
     /// The host, and the file as far as it is written.

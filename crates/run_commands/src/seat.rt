@@ -1,9 +1,10 @@
 //! The terminal of a session: standard input is its keyboard, and a file has its record.
 ghost use Rattle.std.specs.Prelude.{◌≡◌, ◌≢◌, None, false, refl, true};
+ghost use Rattle.run_commands.specs.ScriptFiles.{IsEmptyIn, IsWrittenOut, new_recorder};
 ghost use Rattle.run_commands.specs.declared.seat.Typed.TheVariants.{Key};
 
 use crate::progress::Meter;
-use crate::script_file::ScriptFile;
+use crate::scribe::Scribe;
 use arrayvec::ArrayVec;
 use blockdev::BlockDev;
 use commandline::Live;
@@ -60,14 +61,13 @@ impl fmt::Display for Line {
 
 /// The terminal of a session.
 #[derive(Drop)]
-pub struct Seat<'a, 'b, H, S, E> {
-    host: &'b mut H,
+pub struct Seat<'a, 'b, H: Host, S, E> {
+    // What has the host, and records in its file.
+    scribe: Scribe<'a, 'b, H>,
     meter: &'b Meter<S>,
     stderr: &'b mut E,
     // Whether standard input is a terminal that waits only a moment.
     is_terminal: bool,
-    // The file that has the record, where one has.
-    file: ScriptFile<'a>,
     // What was read and not given yet.
     typed: ArrayVec<u8, MOST_KEYS>,
     // Whether the last byte was an escape.
@@ -89,18 +89,20 @@ impl<'a, 'b, H: Host, S: Screen, E: Write> Seat<'a, 'b, H, S, E> {
         meter: &'b Meter<S>,
         stderr: &'b mut E,
         words: &Live<'a>,
-    ) -> Self {
+    ) -> Self
+        requires { IsEmptyIn words.now.script (H.files host.old) }
+        ensures { result.scribe ≡ new_recorder (H.files host.old) host.entry.ghost_name words.now.script }
+    {
         let editor = if words.edit && words.terminal && meter.has_screen() {
             Some(Editor::new(alloc))
         } else {
             None
         };
         Seat {
-            host,
+            scribe: Scribe::begun(alloc, host, words.script),
             meter,
             stderr,
             is_terminal: words.terminal,
-            file: ScriptFile::begun(alloc, words.script),
             typed: ArrayVec::new(),
             is_escaped: false,
             editor,
@@ -113,13 +115,13 @@ impl<'a, 'b, H: Host, S: Screen, E: Write> Seat<'a, 'b, H, S, E> {
     /// read.
     pub fn finish(self) -> Result<(), Failure<'a>> {
         let Seat {
-            host,
+            scribe,
             meter,
-            file,
             unread,
             ..
         } = self;
         meter.clear();
+        let (host, file) = scribe.into_parts();
         file.finish(host)?;
         match unread {
             None => Ok(()),
@@ -128,8 +130,10 @@ impl<'a, 'b, H: Host, S: Screen, E: Write> Seat<'a, 'b, H, S, E> {
     }
 
     // Ends the session where standard input can't be read, and keeps why, if the host says so.
-    fn stop(&mut self) -> Given {
-        match self.host.why() {
+    fn stop(&mut self) -> Given
+        ensures { self.new.scribe ≡ self.old.scribe }
+    {
+        match self.scribe.why() {
             Why::Unknown => {}
             why => self.unread = Some(Failure::Input(why)),
         }
@@ -137,26 +141,38 @@ impl<'a, 'b, H: Host, S: Screen, E: Write> Seat<'a, 'b, H, S, E> {
     }
 
     // Whether the keyboard is read where the machine does this.
-    fn is_asked(&mut self, mood: Mood) -> bool {
+    fn is_asked(&mut self, mood: Mood) -> bool
+        ensures { self.new.scribe ≡ self.old.scribe }
+    {
         match (self.is_terminal, mood) {
-            (true, Mood::Busy) => self.host.is_due(),
+            (true, Mood::Busy) => self.scribe.is_due(),
             (true, _) | (false, Mood::Idle) => true,
             (false, _) => false,
         }
     }
 
+    // Keeps bytes that were typed, that many of them.
+    fn keep_typed(&mut self, bytes: &[u8], count: usize)
+        ensures { self.new.scribe ≡ self.old.scribe }
+    {
+        for byte in bytes.iter().take(count) {
+            let _ = self.typed.try_push(*byte);
+        }
+    }
+
     // Reads what is typed; whether it was anything.
-    fn read(&mut self) -> Result<bool, Given> {
-        self.file.write_out(&mut *self.host);
+    #[tactic(auto, using(crate::proofs::Recorded::written_as))]
+    fn read(&mut self) -> Result<bool, Given>
+        ensures { IsWrittenOut self.old.scribe self.new.scribe }
+    {
+        self.scribe.write_out();
         let mut bytes = [0; MOST_KEYS];
-        match self.host.type_in(&mut bytes, self.is_terminal) {
+        match self.scribe.type_in(&mut bytes, self.is_terminal) {
             Ok(None) => Ok(false),
             Ok(Some(0)) => Err(Given::End),
             Err(_) => Err(self.stop()),
             Ok(Some(count)) => {
-                for byte in bytes.iter().take(count) {
-                    let _ = self.typed.try_push(*byte);
-                }
+                self.keep_typed(&bytes, count);
                 Ok(true)
             }
         }
@@ -183,7 +199,9 @@ fn meaning(is_terminal: bool, is_escaped: bool, byte: u8) -> Typed
 
 impl<H: Host, S: Screen, E: Write> Seat<'_, '_, H, S, E> {
     // Takes the first byte that was typed, which is that key.
-    fn take(&mut self) {
+    fn take(&mut self)
+        ensures { self.new.scribe ≡ self.old.scribe }
+    {
         if !self.typed.is_empty() {
             self.typed.remove(0);
         }
@@ -191,7 +209,9 @@ impl<H: Host, S: Screen, E: Write> Seat<'_, '_, H, S, E> {
     }
 
     // Changes the line that is edited, and shows it.
-    fn edit(&mut self, key: u8) {
+    fn edit(&mut self, key: u8)
+        ensures { self.new.scribe ≡ self.old.scribe }
+    {
         if let Some(editor) = &mut self.editor {
             let back = editor.column();
             if let Some(keys) = editor.take(key) {
@@ -202,9 +222,11 @@ impl<H: Host, S: Screen, E: Write> Seat<'_, '_, H, S, E> {
     }
 
     // Gives keys of the line that is finished.
-    fn give_finished(&mut self) -> Given {
+    fn give_finished(&mut self) -> Given
+        ensures { self.new.scribe ≡ self.old.scribe }
+    {
         let mut keys = ArrayVec::new();
-        for _ in 0..MOST_KEYS {
+        for _key in 0..MOST_KEYS {
             if self.finished.is_empty() {
                 break;
             }
@@ -215,8 +237,10 @@ impl<H: Host, S: Screen, E: Write> Seat<'_, '_, H, S, E> {
 
     // What the bytes give that were read where lines are edited: the keys of a line that is finished, or what a byte
     // asks for that is no key.
-    fn edit_typed(&mut self) -> Given {
-        for _ in 0..MOST_KEYS {
+    fn edit_typed(&mut self) -> Given
+        ensures { self.new.scribe ≡ self.old.scribe }
+    {
+        for _key in 0..MOST_KEYS {
             if !self.finished.is_empty() {
                 break;
             }
@@ -247,7 +271,9 @@ impl<H: Host, S: Screen, E: Write> Seat<'_, '_, H, S, E> {
     }
 
     // What the bytes give that were read.
-    fn next_given(&mut self) -> Given {
+    fn next_given(&mut self) -> Given
+        ensures { self.new.scribe ≡ self.old.scribe }
+    {
         if self.editor.is_some() {
             self.edit_typed()
         } else {
@@ -257,9 +283,11 @@ impl<H: Host, S: Screen, E: Write> Seat<'_, '_, H, S, E> {
 
     // The same where lines are not edited: keys up to the end of a line or to a byte that is none, or what that byte
     // asks for.
-    fn next_keys(&mut self) -> Given {
+    fn next_keys(&mut self) -> Given
+        ensures { self.new.scribe ≡ self.old.scribe }
+    {
         let mut keys = ArrayVec::new();
-        for _ in 0..MOST_KEYS {
+        for _key in 0..MOST_KEYS {
             let Some(byte) = self.typed.first().copied() else {
                 break;
             };
@@ -291,24 +319,55 @@ impl<H: Host, S: Screen, E: Write> Seat<'_, '_, H, S, E> {
     }
 }
 
+impl<H: Host, S: Screen, E: Write> Seat<'_, '_, H, S, E> {
+    // What was typed, which is read where no key waits.
+    #[tactic(auto, using(crate::proofs::Recorded::written_as, crate::proofs::Recorded::written_none))]
+    fn given(&mut self) -> Given
+        ensures { IsWrittenOut self.old.scribe self.new.scribe }
+    {
+        if !self.typed.is_empty() || !self.finished.is_empty() {
+            return self.next_given();
+        }
+        match self.read() {
+            Ok(true) => self.next_given(),
+            Ok(false) => Given::Nothing,
+            Err(end) => end,
+        }
+    }
+
+    // What the keyboard gives, where it is asked.
+    #[tactic(auto, using(crate::proofs::Recorded::written_as, crate::proofs::Recorded::written_none))]
+    fn answer(&mut self, mood: Mood) -> Given
+        ensures { IsWrittenOut self.old.scribe self.new.scribe }
+    {
+        if self.is_asked(mood) {
+            self.given()
+        } else {
+            Given::Nothing
+        }
+    }
+}
+
 impl<H: Host, S: Screen, E: Write> Record for Seat<'_, '_, H, S, E> {
-    ghost kept = { λ seat. None };
+    ghost use Rattle.std.specs.Prelude.{List, Option, ℕ};
 
-    ghost Rest = { Unit {0} };
+    ghost kept = { λ seat. seat.scribe.kept };
 
-    ghost rest = { λ seat. tt };
+    ghost Rest = { Option (List ℕ) × ℕ };
+
+    ghost rest = { λ seat. (seat.scribe.name, seat.scribe.host) };
 
     fn steps(&mut self, count: u32) {
         self.meter.count(count);
-        self.file.steps(&mut *self.host, count);
+        self.scribe.steps(count);
     }
 
     fn ticks(&mut self, count: u32) {
-        self.file.ticks(&mut *self.host, count);
+        self.scribe.ticks(count);
     }
 
     fn keys(&mut self, keys: &[u8]) {
-        self.file.keys(&mut *self.host, keys);
+        self.scribe.keys(keys);
     }
 }
 
@@ -318,22 +377,12 @@ impl<H: Host, S: Screen, E: Write> Terminal for Seat<'_, '_, H, S, E> {
     ghost is_beside = { λ a b same. refl };
 
     fn ask(&mut self, mood: Mood) -> Given {
-        self.file.end_line(&mut *self.host);
+        self.scribe.end_line();
         match mood {
             Mood::Busy => self.meter.show(0),
             Mood::Asleep | Mood::Idle => self.meter.pause(),
         }
-        if !self.is_asked(mood) {
-            return Given::Nothing;
-        }
-        if self.typed.is_empty() && self.finished.is_empty() {
-            match self.read() {
-                Ok(true) => (),
-                Ok(false) => return Given::Nothing,
-                Err(end) => return end,
-            }
-        }
-        self.next_given()
+        self.answer(mood)
     }
 
     fn show<D: BlockDev, T: Translate>(&mut self, machine: &Machine<D, T>) {

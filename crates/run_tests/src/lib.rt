@@ -12,11 +12,15 @@ mod disks;
 #[cfg(test)]
 mod faults;
 #[cfg(test)]
+mod json_rows;
+#[cfg(test)]
 mod outages;
 #[cfg(test)]
 mod pairs;
 #[cfg(test)]
 mod pieces;
+#[cfg(test)]
+mod records;
 #[cfg(test)]
 mod rounds;
 #[cfg(test)]

@@ -2,10 +2,10 @@
 use Rattle.std.proofs.Common.{◌++◌, [], ap, arith, Err, false, List, None, Ok, Option, refl, Some, subst}
 use Rattle.std.proofs.Common.{sym, true, ℕ, ℤ, ◌%◌, ◌+◌, ◌-◌, ◌<◌, ◌^◌, ◌∙◌, ◌∷◌, ◌≡◌}
 use Rattle.std.proofs.Math.ListN.{get_or-map}
-use Rattle.std.specs.Prelude.{if◌then◌else◌, option_map}
+use Rattle.std.specs.Prelude.{if◌then◌else◌, nat_le, option_map}
 use Rattle.schedules.proofs.Going.{SeenAfter}
 use Rattle.schedules.proofs.Turns.{key-in, runs-in, step-in, stopped-in}
-use Rattle.schedules.proofs.Views.{IsFair, IsPlain, View, mode_in, places_in, state_in}
+use Rattle.schedules.proofs.Views.{IsFair, IsPlain, View, is_over, mode_in, places_in, state_in}
 use Rattle.schedules.specs.Alike.{is_sleep, Alike, AreAlike, EventKeepsAlike, HasClock, NeverAsksTime, RunKeepsAlike}
 use Rattle.schedules.specs.Alike.{asks, asks_as, asks_at, asks_in, asks_time, mode_set_back, places_set_back}
 use Rattle.schedules.specs.Alike.{process_set_back, set_back, state_set_back, timeless}
@@ -14,6 +14,7 @@ use Rattle.unixmodel.specs.Console.{key}
 use Rattle.unixmodel.specs.Meaning.{Effect}
 use Rattle.unixmodel.specs.Next.{effect_of, next, step, stopped, tick}
 use Rattle.unixmodel.specs.Process.{Process}
+use Rattle.unixmodel.specs.ProcessCalls.{sleep_time}
 use Rattle.unixmodel.specs.Run.{UnlessHalted, after_bytes, followed_by, run}
 use Rattle.unixmodel.specs.State.{State, process_at, running}
 use Rattle.unixmodel.specs.declared.call.Call.{Call}
@@ -30,7 +31,7 @@ abbrev back : ℕ → View
 back k = record {
   now = k;
   clock = 0;
-  since = λ number since. if is_sleep number then (2 ^ 32 - (k + (2 ^ 32 - since)) % 2 ^ 32) % 2 ^ 32 else 0;
+  since = λ number args since. if is_sleep number then (2 ^ 32 - (k + (2 ^ 32 - since)) % 2 ^ 32) % 2 ^ 32 else 0;
   held = λ i h. h;
 }
 
@@ -40,11 +41,21 @@ began : (number : Call) (k : ℕ) → k < 2 ^ 32
 began Sleep k clock = omega (arith, clock)
 began _ k clock = refl
 
+-- a sleep has lasted as long
+pub slept-back : (k : ℕ) (w : Pending) → w.number ≡ Sleep
+    → is_over 0 (record w
+    { since = if is_sleep w.number then (2 ^ 32 - (k + (2 ^ 32 - w.since)) % 2 ^ 32) % 2 ^ 32 else 0 })
+    ≡ is_over k w
+slept-back k w sleeps =
+    ap (λ number. is_over 0 (record w
+    { since = if is_sleep number then (2 ^ 32 - (k + (2 ^ 32 - w.since)) % 2 ^ 32) % 2 ^ 32 else 0 })) sleeps
+    ∙ ap (nat_le (sleep_time w)) (omega arith)
+
 back-fair : (k : ℕ) → k < 2 ^ 32 → IsFair (back k)
 back-fair k clock = record {
   pages = λ i h. refl;
-  begins = λ number. began number k clock;
-  slept = λ since. omega arith;
+  begins = λ number args. began number k clock;
+  slept = slept-back k;
 }
 
 back-plain : (k i : ℕ) → IsPlain (back k) i

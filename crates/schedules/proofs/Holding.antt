@@ -30,14 +30,14 @@ reworked_all change s = record s { places = map_at (λ n. reworked (change n)) s
 
 -- its view: the clock is the same
 abbrev pub holding_else : ℕ → (ℕ → Held → Held) → View
-holding_else now change = record { now = now; clock = now; since = λ number since. since; held = change }
+holding_else now change = record { now = now; clock = now; since = λ number args since. since; held = change }
 
 -- each change leaves as many pages
 abbrev pub AllKeepPages : (ℕ → Held → Held) → Type 0
 AllKeepPages change = (n : ℕ) → KeepsPages (change n)
 
 fair : (now : ℕ) (change : ℕ → Held → Held) → AllKeepPages change → IsFair (holding_else now change)
-fair now change pages = record { pages = pages; begins = λ number. refl; slept = λ since. refl }
+fair now change pages = record { pages = pages; begins = λ number args. refl; slept = λ w sleeps. refl }
 
 mode-else : (now : ℕ) (change : ℕ → Held → Held) (m : Mode) → mode_in (holding_else now change) m ≡ m
 mode-else now change Running = refl

@@ -1,10 +1,10 @@
 -- Each row of the table of calls comes to the same in a view of the state.
 use Rattle.std.proofs.Common.{[], ap, Bool, false, length, List, nat_le, None, Option, refl, Some, subst, suc}
-use Rattle.std.proofs.Common.{sym, true, zero, ℕ, ℤ, ◌%◌, ◌+◌, ◌-◌, ◌^◌, ◌∙◌, ◌∷◌, ◌≡◌}
+use Rattle.std.proofs.Common.{sym, true, zero, ℕ, ℤ, ◌+◌, ◌∙◌, ◌∷◌, ◌≡◌}
 use Rattle.std.proofs.lemmas.List.Quantifiers.{position-Some}
 use Rattle.std.specs.Prelude.{if◌then◌else◌, is_none, is_some, option_map, ◌&&◌, ◌==◌, ◌||◌}
-use Rattle.schedules.proofs.Views.{IsFair, IsFresh, IsPlain, IsTimely, View, change-at, frames-in, free-in, mode_in}
-use Rattle.schedules.proofs.Views.{pending_in, timely}
+use Rattle.schedules.proofs.Views.{IsFair, IsFresh, IsPlain, IsTimely, View, change-at, frames-in, free-in, is_over}
+use Rattle.schedules.proofs.Views.{mode_in, pending_in, timely}
 use Rattle.schedules.proofs.Views.{places_in, plain_in, process_in, put-plain, set-at, slot-at, state_in, status-in}
 use Rattle.schedules.proofs.Views.{where-in, within-in, zombie-in}
 use Rattle.schedules.specs.Alike.{is_uptime}
@@ -26,7 +26,7 @@ use Rattle.unixmodel.specs.Plan.{Plan, plan}
 use Rattle.unixmodel.specs.Numbers.{int_of, low, natural}
 use Rattle.unixmodel.specs.Process.{Process, arg, has_pid, is_child_of, is_zombie, last_pid}
 use Rattle.unixmodel.specs.ProcessCalls.{args_at, child_of, exec_row, file_bytes, fits_beside, fork_row, has_child}
-use Rattle.unixmodel.specs.ProcessCalls.{has_slept, kill_row, marked, replaced, sbrk_row, sleep_on, sharing, sleep_time}
+use Rattle.unixmodel.specs.ProcessCalls.{has_slept, kill_row, marked, replaced, sbrk_row, sleep_on, sharing}
 use Rattle.unixmodel.specs.ProcessCalls.{status_of, wait_for, wait_on, wait_row, with_status, zombie_child}
 use Rattle.unixmodel.specs.State.{State, place_of_pid, process_at}
 use Rattle.unixmodel.specs.declared.call.Call.{Call}
@@ -355,17 +355,16 @@ wait-on-agrees v s i p w fair time plain waits =
 begins-in : (v : View) (s : State) (p : Process) (number : Call) → IsFair v → s.ticks ≡ v.now
     → pending_of number (state_in v s) (plain_in v p) ≡ pending_in v (pending_of number s p)
 unfolding state_in
-begins-in v s p number fair time = ap (λ n. record (pending_of number s p) { since = n })
-    (sym (ap (v.since number) time ∙ fair.begins number))
+begins-in v s p number fair time =
+    let args = arg p 0 ∷ arg p 1 ∷ arg p 2 ∷ [] in
+    ap (λ n. record (pending_of number s p) { since = n })
+    (sym (ap (v.since number args) time ∙ fair.begins number args))
 
 -- a sleeper has waited as long
 pub slept-in : (v : View) (s : State) (w : Pending) → IsTimely v → s.ticks ≡ v.now → w.number ≡ Sleep
     → has_slept (state_in v s) (pending_in v w) ≡ has_slept s w
 unfolding state_in
-slept-in v s w timely time sleeps =
-    ap (λ c. nat_le (sleep_time w) ((v.clock + (2 ^ 32 - v.since c w.since)) % 2 ^ 32)) sleeps
-    ∙ ap (λ n. nat_le (sleep_time w) n) (timely.slept w.since)
-    ∙ ap (λ n. nat_le (sleep_time w) ((n + (2 ^ 32 - w.since)) % 2 ^ 32)) (sym time)
+slept-in v s w timely time sleeps = timely.slept w sleeps ∙ ap (λ n. is_over n w) (sym time)
 
 sleep-on-agrees : GoesOnAgrees sleep_on Sleep
 unfolding sleep_on

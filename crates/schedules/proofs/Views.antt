@@ -8,7 +8,7 @@ use Rattle.schedules.specs.Holding.{Held, held, holding, is_waiting_mode}
 use Rattle.unixmodel.specs.Counts.{blocks_of, frames_of, is_within, opens_of, page_frames, process_frames}
 use Rattle.unixmodel.specs.Files.{free_slot, put, slot, taken}
 use Rattle.unixmodel.specs.Process.{Process, is_running_mode, is_zombie_mode}
-use Rattle.unixmodel.specs.ProcessCalls.{status_of}
+use Rattle.unixmodel.specs.ProcessCalls.{sleep_time, status_of}
 use Rattle.unixmodel.specs.State.{State, holds, open_limit}
 use Rattle.unixmodel.specs.declared.call.Call.{Call}
 use Rattle.unixmodel.specs.declared.call.Call.TheVariants.{Sleep}
@@ -111,22 +111,31 @@ pub record View : Type 0 where
   -- the clock of the states that are seen, and what it is seen as
   pub now : ℕ
   pub clock : ℕ
-  -- when a call that waits began
-  pub since : Call → ℕ → ℕ
+  -- when a call that waits began, by its number and arguments
+  pub since : Call → List ℕ → ℕ → ℕ
   -- what the process in a slot holds
   pub held : ℕ → Held → Held
+
+abbrev pub pending_in : View → Pending → Pending
+pending_in v w = record w { since = v.since w.number w.args w.since }
+
+-- a sleep is over at a time
+abbrev pub is_over : ℕ → Pending → Bool
+is_over ticks w = nat_le (sleep_time w) ((ticks + (2 ^ 32 - w.since)) % 2 ^ 32)
+
+-- sleeps are over as they are
+abbrev pub SeesOver : View → Type 0
+SeesOver v = (w : Pending) → w.number ≡ Sleep → is_over v.clock (pending_in v w) ≡ is_over v.now w
 
 -- a view by which a state goes on as it does
 pub record IsFair (v : View) : Type 0 where
   pub pages : (i : ℕ) (h : Held) → length (v.held i h).memory ≡ length h.memory
-  pub begins : (number : Call) → v.since number v.now ≡ v.clock
-  pub slept : (since : ℕ)
-      → (v.clock + (2 ^ 32 - v.since Sleep since)) % 2 ^ 32 ≡ (v.now + (2 ^ 32 - since)) % 2 ^ 32
+  pub begins : (number : Call) (args : List ℕ) → v.since number args v.now ≡ v.clock
+  pub slept : SeesOver v
 
 -- one by which sleeps are over as they are
 pub record IsTimely (v : View) : Type 0 where
-  pub slept : (since : ℕ)
-      → (v.clock + (2 ^ 32 - v.since Sleep since)) % 2 ^ 32 ≡ (v.now + (2 ^ 32 - since)) % 2 ^ 32
+  pub slept : SeesOver v
 
 pub timely : (v : View) → IsFair v → IsTimely v
 timely v fair = record { slept = fair.slept }
@@ -138,9 +147,6 @@ pub record IsPlain (v : View) (i : ℕ) : Type 0 where
 -- of each slot that is free what is held will be seen
 pub record IsFresh (v : View) (ps : List (Option Process)) : Type 0 where
   pub free : (i : ℕ) → slot ps i ≡ None → IsPlain v i
-
-abbrev pub pending_in : View → Pending → Pending
-pending_in v w = record w { since = v.since w.number w.since }
 
 abbrev pub mode_in : View → Mode → Mode
 mode_in v Running = Running

@@ -1,48 +1,80 @@
 //! Slots that keep translations, which translators share that remember some.
-ghost use Rattle.std.specs.Prelude.{◌≡◌, ℕ, ◌+◌, ◌-◌, ◌*◌, ◌/◌, ◌%◌, ◌^◌, ◌<◌, ◌≤◌, ◌⊎◌, length, IfSome, IfNone};
+ghost use Rattle.std.specs.Prelude.{◌≡◌, ℕ, ◌+◌, ◌-◌, ◌*◌, ◌/◌, ◌%◌, ◌^◌, ◌<◌, ◌≤◌, ◌≢◌, ◌⊎◌, IfSome, IfNone};
 ghost use Rattle.unixmodel.specs.Translation.{Translation};
-ghost use Rattle.sv39.specs.Lookaside.{Keeps, KeepsOthers, Misses, IsPlaced, IsWithin, asked, filled, for_access};
-ghost use Rattle.sv39.specs.Lookaside.{of_page, set_for};
+ghost use Rattle.sv39.specs.Lookaside.{HasSlot, Keeps, KeepsOthers, Misses, IsPlaced, IsWithin, asked, filled};
+ghost use Rattle.sv39.specs.Lookaside.{for_access, of_page, set_for};
 
 use crate::Access;
 use ram::FrameNo;
 use std::marker::Model;
 
-// A page has a frame under a root.
-#[derive(Clone, Copy)]
-struct Entry {
-    page: u64,
-    root: FrameNo,
-    frame: FrameNo,
-}
-
 // No address is on this page, which has no number of 52 bits.
-const NONE: Entry = Entry {
-    page: u64::MAX,
-    root: FrameNo(0),
-    frame: FrameNo(0),
-};
+const NONE: u64 = u64::MAX;
 
-// Slots that keep nothing.
-fn empty<const N: usize>() -> [Entry; N]
-    ensures { (root page frame : ℕ) → ¬ IsPlaced N result root page frame }
-{
-    [NONE; N]
+// Slots that each keep the frame of a page under a root. Pages, roots and frames are in arrays of their own, of numbers
+// whose size the processor multiplies an index with.
+#[derive(Drop)]
+struct Slots<const N: usize> {
+    pages: [u64; N],
+    roots: [FrameNo; N],
+    frames: [FrameNo; N],
 }
 
-// The frame that is kept for a page under a root.
-#[inline(always)]
-fn find<const N: usize>(places: &[Entry; N], root: FrameNo, page: u64) -> Option<FrameNo>
-    requires some { 0 < N }
-    requires page { page < 2 ^ 52 }
-    ensures found { IfSome result (λ f. IsPlaced N places.now root.0 page f.0) }
-    ensures none { IfNone result ((f : ℕ) → ¬ IsPlaced N places.now root.0 page f) }
-{
-    let entry = &places[(page % N as u64) as usize];
-    if (entry.page == page) & (entry.root.0 == root.0) {
-        Some(entry.frame)
-    } else {
-        None
+impl<const N: usize> Model for Slots<N> {
+    ghost use Rattle.sv39.specs.Lookaside.{Table};
+
+    ghost Value = { Table };
+
+    ghost view = { λ s. record { pages = s.pages; roots = s.roots; frames = s.frames } };
+}
+
+impl<const N: usize> Slots<N> {
+    // They keep nothing.
+    fn empty() -> Slots<N>
+        ensures { (root page frame : ℕ) → ¬ IsPlaced N result root page frame }
+    {
+        Slots {
+            pages: [NONE; N],
+            roots: [FrameNo(0); N],
+            frames: [FrameNo(0); N],
+        }
+    }
+
+    // The frame that is kept for a page under a root.
+    #[inline(always)]
+    fn find(&self, root: FrameNo, page: u64) -> Option<FrameNo>
+        requires some { 0 < N }
+        requires page { page < 2 ^ 52 }
+        ensures found { IfSome result (λ f. IsPlaced N self.now root.0 page f.0) }
+        ensures none { IfNone result ((f : ℕ) → ¬ IsPlaced N self.now root.0 page f) }
+    {
+        let at = (page % N as u64) as usize;
+        if (self.pages[at] == page) & (self.roots[at].0 == root.0) {
+            Some(self.frames[at])
+        } else {
+            None
+        }
+    }
+
+    // Fills the slot of a page.
+    fn fill(&mut self, root: FrameNo, page: u64, frame: FrameNo)
+        requires { 0 < N }
+        ensures is { self.new ≡ filled self.old (page % N) root.0 page frame.0 }
+        ensures within { HasSlot self.old (page % N) }
+    {
+        let at = (page % N as u64) as usize;
+        self.pages[at] = page;
+        self.roots[at] = root;
+        self.frames[at] = frame;
+    }
+
+    // Empties a slot.
+    fn forget(&mut self, at: usize)
+        requires { at < N }
+        ensures { (root page frame : ℕ) → IsPlaced N self.new root page frame →
+            IsPlaced N self.old root page frame × (page % N ≢ at) }
+    {
+        self.pages[at] = NONE;
     }
 }
 
@@ -60,9 +92,9 @@ fn end_past(end: usize, at: usize) -> usize
 /// are empty, so that clearing them costs what was kept and not what could be.
 #[derive(Drop)]
 pub struct Places<const N: usize> {
-    fetches: [Entry; N],
-    loads: [Entry; N],
-    stores: [Entry; N],
+    fetches: Slots<N>,
+    loads: Slots<N>,
+    stores: Slots<N>,
     end: usize,
 }
 
@@ -83,15 +115,15 @@ impl<const N: usize> Places<N> {
         ensures { (t : Translation) → ¬ Keeps N result t }
     {
         Places {
-            fetches: empty(),
-            loads: empty(),
-            stores: empty(),
+            fetches: Slots::empty(),
+            loads: Slots::empty(),
+            stores: Slots::empty(),
             end: 0,
         }
     }
 
     #[inline(always)]
-    fn of(&self, access: Access) -> &[Entry; N]
+    fn of(&self, access: Access) -> &Slots<N>
         ensures places { result.now ≡ for_access self.now access }
         ensures some { 0 < N }
     {
@@ -108,23 +140,22 @@ impl<const N: usize> Places<N> {
         ensures found { IfSome result (λ f. Keeps N self.now (asked root.0 va access f.0)) }
         ensures none { IfNone result (Misses (Keeps N self.now) root.0 va access) }
     {
-        find(self.of(access), root, va / 4096)
+        self.of(access).find(root, va / 4096)
     }
 
     // Fills the slot of a page.
     fn put(&mut self, root: FrameNo, page: u64, access: Access, frame: FrameNo)
         requires { page < 2 ^ 52 }
-        ensures is { self.new ≡ set_for self.old access (page % N) (filled root.0 page frame.0) }
-        ensures within { page % N < length (for_access self.old access) }
+        ensures is { self.new ≡ set_for self.old access (page % N) root.0 page frame.0 }
+        ensures within { HasSlot (for_access self.old access) (page % N) }
     {
         let end = self.end;
         let at = (page % N as u64) as usize;
         self.end = end_past(end, at);
-        let entry = Entry { page, root, frame };
         match access {
-            Access::Fetch => self.fetches[at] = entry,
-            Access::Load => self.loads[at] = entry,
-            Access::Store => self.stores[at] = entry,
+            Access::Fetch => self.fetches.fill(root, page, frame),
+            Access::Load => self.loads.fill(root, page, frame),
+            Access::Store => self.stores.fill(root, page, frame),
         }
     }
 
@@ -146,9 +177,9 @@ impl<const N: usize> Places<N> {
         let mut end = self.end;
         while end > 0 {
             end -= 1;
-            self.fetches[end] = NONE;
-            self.loads[end] = NONE;
-            self.stores[end] = NONE;
+            self.fetches.forget(end);
+            self.loads.forget(end);
+            self.stores.forget(end);
         }
         self.end = 0;
     }

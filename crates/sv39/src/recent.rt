@@ -58,6 +58,7 @@ impl<T: Translate> Recent<T> {
     }
 
     // Asks below, and remembers the result.
+    #[cold]
     #[inline(never)]
     fn ask(&mut self, ram: &Ram, root: FrameNo, va: u64, access: Access) -> Option<FrameNo>
         requires { HoldsInside (T.held self.old.below) ram.now }

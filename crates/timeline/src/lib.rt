@@ -7,8 +7,6 @@ mod giving;
 mod moving;
 mod outputs;
 mod printed;
-#[cfg(test)]
-mod tests;
 mod timeline;
 mod wanted;
 

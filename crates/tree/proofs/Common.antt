@@ -15,8 +15,9 @@ pub use Rattle.std.proofs.lemmas.List.Elements.{All-append, All-cons, All-head, 
 pub use Rattle.std.proofs.lemmas.List.Quantifiers.{position-Some}
 pub use Rattle.std.proofs.lemmas.Option.{none-some, option_and_then_some, same_Some}
 pub use Rattle.std.specs.List.{list_all, position_or_len}
-pub use Rattle.std.specs.Prelude.{◌&&◌, ◌==◌, All, filter, flat_map, IfErr, IfNone, IfOk, is_none, is_some, IsSome}
-pub use Rattle.std.specs.Prelude.{nat_le, nat_lt, OnErr, option_and_then, option_map, position, sum_by, unwrap_or}
+pub use Rattle.std.specs.Prelude.{◌&&◌, ◌||◌, ◌==◌, All, filter, flat_map, IfErr, IfNone, IfOk, is_none, is_some}
+pub use Rattle.std.specs.Prelude.{IsSome, nat_le, nat_lt, OnErr, option_and_then, option_map, position, sum_by}
+pub use Rattle.std.specs.Prelude.{unwrap_or}
 pub use Rattle.blockdev.specs.Splice.{part, splice}
 pub use Rattle.blockdev.specs.declared.DeviceFault.{DeviceFault}
 pub use Rattle.imagerules.proofs.Spelling.{length-place_bytes, length-spelling, places_in-back, slot-places_in}
@@ -82,5 +83,5 @@ pub use Rattle.tree.specs.declared.TreeFault.{TreeFault}
 pub use Rattle.tree.specs.declared.TreeFault.TheVariants.{DeadDir, DotName, Exists, Full, NotDir, NotEmpty, NotFound}
 pub use Rattle.tree.specs.declared.making.Leaf.{Leaf}
 pub use Rattle.tree.specs.declared.place.Found.{Found}
-pub use Rattle.tree.specs.declared.place.Sought.TheVariants.{Free, Name, Taken}
+pub use Rattle.tree.specs.declared.place.Sought.TheVariants.{Name, NameOrFree, Taken}
 pub use Rattle.tree.specs.declared.tree.Tree.TheInside.{Inside}

@@ -16,7 +16,9 @@ use Rattle.tree.proofs.Common.{Stores, HasFiles, Entry}
 use Rattle.tree.proofs.Storing.{fresh-stores, kept-stores, lowest-number, no-number, blocks_of-set, held-again}
 use Rattle.tree.proofs.Storing.{taken_by}
 use Rattle.tree.proofs.Places.{enter-full, enter-room, blocks_of-entered, cond-none, none-not}
-use Rattle.tree.proofs.Naming.{live_at, no-spot, spot_at, IsLiveAt, spot-above, spot-none}
+use Rattle.tree.proofs.Naming.{live_at, no-spot, spot_at, IsLiveAt, lookup-told, spot-above}
+use Rattle.tree.proofs.Naming.{spot-none}
+use Rattle.tree.proofs.Common.{Found, found_in}
 use Rattle.tree.specs.declared.TreeFault.TheVariants.{Blocks, Inodes}
 use Rattle.tree.proofs.Following.{IsNow, at-now}
 use Rattle.tree.specs.declared.making.Leaf.TheVariants as leaf
@@ -101,16 +103,23 @@ spot-directory files d path at h = go (above files d path) (sym (spot-above _ d 
 
 -- ---- a gap: the slot of a new entry
 
+some-number : (o : Option Found) → is_some (option_map (λ (f : Found). f.number) o) ≡ is_some o
+some-number None = refl
+some-number (Some found) = refl
+
 -- from what was read of the directory of a spot
 module _ (files : Files) (d : ℕ) (path : List ℕ) {at : Spot} (spot : spot_of files d path ≡ Some at) where
   abbrev live : IsLiveAt files at.directory
   live = spot-directory _ d path at spot
 
-  pub gap-used : IsSome (slot files at.directory)
-  gap-used = ap is_some live.here
-
   abbrev pub gap-folder : IsFolder files at.directory
   gap-folder = record { links = suc live.links; places = live.places; here = live.here }
+
+  pub gap-named : IsSome (found_in live.places at.name) → IsSome (lookup files at.directory at.name)
+  gap-named some = ap is_some (sym (lookup-told live at.name _ refl)) ∙ some-number _ ∙ some
+
+  pub gap-unnamed : found_in live.places at.name ≡ None → lookup files at.directory at.name ≡ None
+  gap-unnamed none = sym (lookup-told live at.name _ refl) ∙ ap (option_map (λ (f : Found). f.number)) none
 
   pub gap-full : room_in live.places ≡ None → IsFullAt files d path
   gap-full none = record {

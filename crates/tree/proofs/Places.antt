@@ -8,11 +8,14 @@ use Rattle.tree.proofs.Common.{length-append, length-set, position-Some, same_So
 use Rattle.tree.proofs.Common.{room_at, room_behind, room_in, blocks_of, Files, Spot, change_node, enter, free_slot}
 use Rattle.tree.proofs.Common.{live_places, most_places, put, with_entry, with_entry_at, with_places, Directory, ◌/◌}
 use Rattle.tree.proofs.Common.{◌%◌, min, take, subst, All, flat_map, not, append-nil, drop-drop, drop-take, drop_all}
-use Rattle.tree.proofs.Common.{length-take, length-take-le, take-take, part, Free, Name, Taken, IsFirst, Scans}
+use Rattle.tree.proofs.Common.{length-take, length-take-le, take-take, part, Name, NameOrFree, Taken, IsFirst, Scans}
 use Rattle.tree.proofs.Common.{is_sought, place_in, IsFolder, FitsPlaces, FileTree, IsWhole, PlaceFits, length-spelling}
 use Rattle.tree.proofs.Common.{places_in-back, slot-places_in, Node, place_bytes, Entry}
 use Rattle.tree.proofs.Storing.{position-at, position-none, taken-grows, blocks_of-set, change-is, slot-within}
 use Rattle.tree.proofs.Storing.{taken_by}
+use Rattle.tree.specs.Calls.{TellsRoomFor}
+use Rattle.tree.specs.Entering.{room_told}
+use Rattle.tree.proofs.Common.{or_parts, le_refl, ◌||◌}
 use Rattle.imagerules.proofs.Spelling.{place-free, place-taken}
 use Rattle.std.specs.Borrow.{Bor}
 use Rattle.tree.specs.declared.place.Sought.{Sought}
@@ -293,6 +296,10 @@ none-there : (o : Option Entry) → is_none o ≡ true → o ≡ None
 none-there None h = refl
 none-there (Some e) h = absurd (false≢true h)
 
+left-of : (a b : Bool) → (a || b) ≡ true → b ≡ false → a ≡ true
+left-of true b e f = refl
+left-of false b e f = absurd (false≢true (sym f ∙ e))
+
 entry-of : (o : Option Entry) → is_some o ≡ true → (e : Entry) × (o ≡ Some e)
 entry-of None h = absurd (false≢true h)
 entry-of (Some e) h = (e, refl)
@@ -330,20 +337,52 @@ module _ (places : List (Option Entry)) (fits : All PlaceFits places) where
       (ap (has_name name.now) here ∙ is.here)
       ∙ ap (found_at found.place) here ∙ named-place (part (16 * found.place) 16 bytes) name.now _ _ is.here is.number)
 
-  -- a free slot
-  pub free-told : (found : Found) → IsFirst Free bytes 0 found → Some found.place ≡ room_in places
-  free-told found is =
-      let w = is.within in
-      sym (room-free places found.place (omega (arith, long))
-      (λ j l. let low : j < length bytes / 16 = omega arith in ap is_some (place-is j low)
-      ∙ some-not _ (is.before j l (omega arith)))
-      (place-is _ w ∙ none-there _ is.here))
+  -- a scan from a slot on, where those before it aren't sought
+  whole-scan : (sought : Sought) (from : ℕ) (o : Option Found)
+      → ((j : ℕ) → j < from → is_sought sought (place_in bytes j) ≡ false) → Scans sought bytes from o
+      → Scans sought bytes 0 o
+  whole-scan sought from None before none = λ k l low. elim (cases_lt k from) [
+    | inl b ↦ before k b
+    | inr a ↦ none k l a
+  ]
+  whole-scan sought from (Some found) before is = record {
+    behind = omega arith;
+    within = is.within;
+    before = λ k l low. elim (cases_lt k from) [
+      | inl b ↦ before k b
+      | inr a ↦ is.before k l a
+    ];
+    here = is.here;
+    number = is.number;
+  }
 
-  pub full-told : Scans Free bytes 0 None → (count : ℕ) → count ≡ length places → room_behind count ≡ room_in places
-  full-told none count is =
-      sym (room-end places count count (omega arith) (omega arith)
-      (λ j l. let low : j < length bytes / 16 = omega (arith, long) in ap is_some (place-is j low)
-      ∙ some-not _ (none j low (omega arith))))
+  -- neither a name nor a free slot
+  pub none-told : (name : Bor (List ℕ)) → Scans (NameOrFree name) bytes 0 None → (count : ℕ) → count ≡ length places
+      → (found_in places name.now ≡ None) × (room_in places ≡ room_behind count)
+  none-told name none count is = (
+    sym (name-told name None (λ k l low. (or_parts _ _ (none k l low)).1)),
+    room-end places count count (sym is) (omega arith)
+        (λ j l. let low : j < length bytes / 16 = omega (arith, long) in ap is_some (place-is j low)
+        ∙ some-not _ (or_parts _ _ (none j low (omega arith))).0),
+  )
+
+  -- the first free slot, or the name
+  module _ (name : Bor (List ℕ)) (found : Found) (is : IsFirst (NameOrFree name) bytes 0 found) where
+    passed-both : (j : ℕ) → j < found.place
+        → (is_none (place_in bytes j) ≡ false) × (has_name name.now (place_in bytes j) ≡ false)
+    passed-both j l = or_parts _ _ (is.before j l (omega arith))
+
+    pub later-told : (o : Option Found) → Scans (Name name) bytes found.place o → o ≡ found_in places name.now
+    later-told o scanned =
+        name-told name o (whole-scan (Name name) found.place o (λ j l. (passed-both j l).1) scanned)
+
+    pub free-told : Scans (Name name) bytes found.place None → room_in places ≡ Some found.place
+    free-told none =
+        let w = is.within in
+        room-free places found.place (omega (arith, long))
+        (λ j l. let low : j < length bytes / 16 = omega arith in ap is_some (place-is j low)
+        ∙ some-not _ (passed-both j l).0)
+        (place-is _ w ∙ none-there _ (left-of _ _ is.here (none found.place w (le_refl _))))
 
   -- a slot in use, after the first two
   bare-is : (o : Option Found) → Scans Taken bytes 2 o → is_none o ≡ is_bare places
@@ -356,6 +395,12 @@ module _ (places : List (Option Entry)) (fits : All PlaceFits places) where
   pub bare-told : (o : Option Found) → Scans Taken bytes 2 o → (none : Bool) → is_some o ≡ not none
       → none ≡ is_bare places
   bare-told o scanned none is = none-is o none is ∙ bare-is o scanned
+
+-- where an entry of a name goes if nothing has the name
+pub unnamed-told : (places : List (Option Entry)) (name : List ℕ) (o : Option ℕ) → found_in places name ≡ None
+    → room_in places ≡ o → TellsRoomFor places name (room_told o)
+unnamed-told places name None none room = (none, room)
+unnamed-told places name (Some k) none room = (none, room)
 
 -- ---- the slots of a directory
 

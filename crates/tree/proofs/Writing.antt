@@ -18,8 +18,8 @@ use Rattle.tree.proofs.Places.{blocks_of-entered, entered-is, placed-behind, pla
 use Rattle.tree.proofs.Following.{Becomes, failed}
 use Rattle.std.proofs.Math.Seq.{drop-append-add, drop-append_seam, take-append-add}
 use Rattle.tree.proofs.Storing.{blocks_of-set, change-is, slot-within, taken_by, file-stores, kept-stores, never-full}
-use Rattle.tree.proofs.Storing.{rewritten-stores, taken-grows, held-again, held-raw, inside-holds, inside-room}
-use Rattle.tree.proofs.Storing.{inside-after, done-inside, lost-inside, with_volume}
+use Rattle.tree.proofs.Storing.{rewritten-stores, rewritten-within, taken-grows, held-again, held-raw, inside-holds}
+use Rattle.tree.proofs.Storing.{inside-room, inside-after, done-inside, lost-inside, with_volume}
 use Rattle.inode.specs.Store.{has_failed, is_device, with_bytes}
 use Rattle.inode.specs.declared.InodeFault.TheVariants.{Blocks, Device}
 use Rattle.inode.specs.Writing.{LacksAt}
@@ -308,6 +308,16 @@ module _ {D : Type 0} {v : Store D} {files : Files} {limit : ℕ} (holds : Store
     write-told (Err Device) wrote up = absurd (false≢true (sym up ∙ wrote.failed))
 
 -- ---- writes, as callers of the tree see them
+
+-- slots of a directory are there, and the blocks suffice
+pub rewrite-refused : {D : Type 0} {v : Store D} (v' : Store D) {seen : FileTree} {d at : ℕ} {bytes : List ℕ}
+    {next : List (Option Entry)} → Stores v seen.files → v.free + blocks_of seen.files ≡ seen.block_limit
+    → Rewrites seen d at bytes next → (fault : InodeFault) → fault ≢ Device
+    → (is_device fault ≡ false → LacksWriting v v' d at bytes fault) → ⊥
+rewrite-refused v' holds room able (Blocks k) other lacks = never-full holds able room k (lacks refl)
+rewrite-refused v' holds room able PastEnd other lacks = omega (arith, rewritten-within holds able, (lacks refl).1)
+rewrite-refused v' holds room able TooLong other lacks = omega (arith, (lacks refl).2, able.short)
+rewrite-refused v' holds room able Device other lacks = other refl
 
 module _ {D : Type 0} {identity : D → List ℕ} {t : Inside D} {seen : FileTree} (whole : IsInside t)
     (is : tree_of identity t ≡ seen) (up : seen.failed ≡ false) {v' : Store D} where

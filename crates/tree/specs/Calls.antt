@@ -1,14 +1,16 @@
 -- What calls on the nodes of a file system return, and what they leave.
 use Rattle.std.specs.Borrow.{Bor}
-use Rattle.std.specs.Prelude.{Bool, List, None, Option, Result, Some, [], drop, flat_map, length, min, nat_le}
+use Rattle.std.specs.Prelude.{Bool, IsSome, List, None, Option, Result, Some, [], drop, flat_map, length, min, nat_le}
 use Rattle.std.specs.Prelude.{option_map, replicate, ℕ, ◌*◌, ◌++◌, ◌+◌, ◌-◌, ◌≡◌, ◌≤◌}
 use Rattle.blockdev.specs.Splice.{part}
 use Rattle.tree.specs.Answers.{Overflows}
 use Rattle.tree.specs.declared.entering.Gap.{Gap}
 use Rattle.tree.specs.declared.place.Found.{Found}
+use Rattle.tree.specs.declared.place.Room.{Room}
+use Rattle.tree.specs.declared.place.Room.TheVariants.{At, Full, Named}
 use Rattle.tree.specs.declared.place.Sought.{Sought}
 use Rattle.tree.specs.declared.TreeFault.{TreeFault}
-use Rattle.tree.specs.Entering.{HasGap, HasRoom, entered, folder_in, growth, linked_in, made_files, made_in}
+use Rattle.tree.specs.Entering.{HasGap, HasRoom, entered, folder_in, growth, linked_in, made_files, made_in, room_in}
 use Rattle.tree.specs.Holding.{let_go, unheld, without_hold}
 use Rattle.tree.specs.Lacking.{LacksFolder, LacksGap, LacksLinking, LacksMaking, LacksUnlinking}
 use Rattle.tree.specs.Names.{found_in}
@@ -80,6 +82,15 @@ ScansFolder files d sought from found = (f : IsFolder files d) → Scans sought 
 -- the slot of a name
 abbrev pub FindsName : Files → ℕ → List ℕ → Option Found → Type 0
 FindsName files d name found = (f : IsFolder files d) → found ≡ found_in f.places name
+
+-- where an entry of a name goes
+abbrev pub TellsRoomFor : List (Option Entry) → List ℕ → Room → Type 0
+TellsRoomFor places name Named = IsSome (found_in places name)
+TellsRoomFor places name Full = (found_in places name ≡ None) × (room_in places ≡ None)
+TellsRoomFor places name (At k) = (found_in places name ≡ None) × (room_in places ≡ Some k)
+
+abbrev pub FindsRoom : Files → ℕ → List ℕ → Room → Type 0
+FindsRoom files d name room = (f : IsFolder files d) → TellsRoomFor f.places name room
 
 -- whether there are blocks for an entry in a slot, and `more` beside
 abbrev pub TellsRoom : FileTree → ℕ → ℕ → ℕ → Bool → Type 0

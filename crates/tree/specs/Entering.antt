@@ -4,6 +4,8 @@ use Rattle.std.specs.Prelude.{option_map, suc, ℕ, ◌*◌, ◌++◌, ◌+◌, 
 use Rattle.layout.specs.Image.{taken_for}
 use Rattle.layout.specs.declared.Kind.{Kind}
 use Rattle.layout.specs.declared.Kind.TheVariants as kind
+use Rattle.tree.specs.declared.place.Room.{Room}
+use Rattle.tree.specs.declared.place.Room.TheVariants.{At, Full}
 use Rattle.unixmodel.specs.Counts.{blocks_of}
 use Rattle.unixmodel.specs.Files.{Entry, Files, Node, Spot, change_node, find, free_slot, lookup, most_places}
 use Rattle.unixmodel.specs.Files.{places_at, put, slot, spot_of}
@@ -15,6 +17,11 @@ use Rattle.unixmodel.specs.NameCalls.{Made, linked, made_at, made_directory}
 -- after all slots, while there is room
 abbrev pub room_behind : ℕ → Option ℕ
 room_behind count = if nat_lt count most_places then Some count else None
+
+-- the same where no entry has the name
+abbrev pub room_told : Option ℕ → Room
+room_told None = Full
+room_told (Some k) = At k
 
 -- the first free slot, or the end
 abbrev pub room_at : List (Option Entry) → Option ℕ → Option ℕ

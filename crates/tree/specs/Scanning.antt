@@ -1,18 +1,18 @@
 -- What a scan of a directory's slots finds.
 use Rattle.std.specs.Prelude.{Bool, List, None, Option, Some, is_none, is_some, length, ℕ, ◌*◌, ◌/◌, ◌<◌, ◌≡◌, ◌≤◌}
-use Rattle.std.specs.Prelude.{true, false}
+use Rattle.std.specs.Prelude.{true, false, ◌||◌}
 use Rattle.blockdev.specs.Splice.{part}
 use Rattle.imagerules.specs.Places.{place_of_bytes}
 use Rattle.tree.specs.declared.place.Found.{Found}
 use Rattle.tree.specs.declared.place.Sought.{Sought}
-use Rattle.tree.specs.declared.place.Sought.TheVariants.{Free, Name, Taken}
+use Rattle.tree.specs.declared.place.Sought.TheVariants.{Name, NameOrFree, Taken}
 use Rattle.unixmodel.specs.Files.{Entry, has_name}
 use Rattle.unixmodel.specs.Numbers.{number_at}
 
 -- whether a slot is what is sought
 abbrev pub is_sought : Sought → Option Entry → Bool
 is_sought (Name name) o = has_name name.now o
-is_sought Free o = is_none o
+is_sought (NameOrFree name) o = is_none o || has_name name.now o
 is_sought Taken o = is_some o
 
 -- slot k of a directory's bytes

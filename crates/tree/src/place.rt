@@ -2,13 +2,13 @@
 
 ghost use Rattle.std.specs.Prelude.{◌≡◌, IsSome, ℕ, ◌+◌, ◌-◌, ◌*◌, ◌/◌, ◌%◌, ◌<◌, ◌≤◌, ◌==◌, List, false, get_or};
 ghost use Rattle.std.specs.Prelude.{length, nat_lt, ◌&&◌};
-ghost use Rattle.tree.specs.Entering.{room_behind, room_in};
+ghost use Rattle.tree.specs.Entering.{room_behind, room_told};
 ghost use Rattle.tree.specs.Names.{is_bare};
 ghost use Rattle.tree.specs.Scanning.{Scans, is_sought};
 ghost use Rattle.imagerules.specs.Places.{place_of_bytes};
 ghost use Rattle.tree.specs.Steps.{IsFolder, Reads};
 ghost use Rattle.unixmodel.specs.Files.{has_name, lookup, slot};
-ghost use Rattle.tree.specs.Calls.{ArePlaces, FindsName, ScansFolder};
+ghost use Rattle.tree.specs.Calls.{ArePlaces, FindsName, FindsRoom, ScansFolder};
 
 use crate::Tree;
 use blockdev::{BLOCK_SIZE, BlockDev, DeviceFault};
@@ -29,6 +29,17 @@ pub struct Found {
     pub place: usize,
     /// The number of the node.
     pub number: usize,
+}
+
+/// Where an entry of a name goes in a directory.
+#[derive(Clone, Copy)]
+pub enum Room {
+    /// Nowhere: an entry has the name.
+    Named,
+    /// Nowhere: the directory is full.
+    Full,
+    /// Into this slot: the first free one, or the end.
+    At(usize),
 }
 
 // The byte that a name begins with, 0 where it is empty.
@@ -57,8 +68,8 @@ fn has_name(place: &[u8], name: &[u8]) -> bool
 enum Sought<'a> {
     // The slot of a name.
     Name(&'a [u8]),
-    // A free slot.
-    Free,
+    // The slot of a name, or a free one.
+    NameOrFree(&'a [u8]),
     // A slot in use.
     Taken,
 }
@@ -70,7 +81,7 @@ fn is_sought(place: &[u8], sought: &Sought) -> bool
 {
     match sought {
         Sought::Name(name) => has_name(place, name),
-        Sought::Free => is_free(place),
+        Sought::NameOrFree(name) => is_free(place) || has_name(place, name),
         Sought::Taken => !is_free(place),
     }
 }
@@ -99,13 +110,13 @@ fn is_live(node: &InodeStat) -> bool
 }
 
 // The slot after `count` slots, unless that is past the longest directory.
-fn end_place(count: usize) -> Option<usize>
-    ensures { result ≡ room_behind count }
+fn room_behind(count: usize) -> Room
+    ensures { result ≡ room_told (room_behind count) }
 {
     if count < MOST_PLACES {
-        Some(count)
+        Room::At(count)
     } else {
-        None
+        Room::Full
     }
 }
 
@@ -199,20 +210,22 @@ impl<D: BlockDev> Tree<D> {
         Ok(Some(found.number))
     }
 
-    // The slot for a new entry of a directory: the first free one, or the end. Returns `None` where the
-    // directory is full.
-    pub(crate) fn room(&mut self, directory: usize) -> Result<Option<usize>, DeviceFault>
+    // Where an entry of a name goes in a directory. Each slot is looked at once: up to the first free one for that or
+    // the name, and from there on for the name alone.
+    pub(crate) fn room_for(&mut self, directory: usize, name: &[u8]) -> Result<Room, DeviceFault>
         requires up { self.old.failed ≡ false }
         requires directory { IsFolder self.old.files directory }
-        ensures { Reads self.old self.new result
-            (λ place. (f : IsFolder self.old.files directory) → place ≡ room_in f.places) }
+        ensures { Reads self.old self.new result (FindsRoom self.old.files directory name.now) }
     {
         self.is_whole();
         let count = self.count_places(directory)?;
-        match self.scan(directory, count, 0, &Sought::Free)? {
-            Some(found) => Ok(Some(found.place)),
-            None => Ok(end_place(count)),
-        }
+        let Some(first) = self.scan(directory, count, 0, &Sought::NameOrFree(name))? else {
+            return Ok(room_behind(count));
+        };
+        let None = self.scan(directory, count, first.place, &Sought::Name(name))? else {
+            return Ok(Room::Named);
+        };
+        Ok(Room::At(first.place))
     }
 
     // Whether a directory has no slots in use except its first two.

@@ -232,10 +232,10 @@ impl<D: BlockDev> Tree<D> {
     {
         match self.volume.write_at(directory, at, bytes) {
             Ok(()) => Ok(()),
-            Err(InodeFault::Device) => Err(DeviceFault),
-            Err(InodeFault::Blocks { .. }) => unreachable!(),
-            Err(InodeFault::TooLong) => unreachable!(),
-            Err(InodeFault::PastEnd) => unreachable!(),
+            Err(fault) => match fault {
+                InodeFault::Device => Err(DeviceFault),
+                _ => unreachable!(),
+            },
         }
     }
 

@@ -50,10 +50,9 @@ impl<'a> Starved<'a> {
 
 // Compares a disk with the one below the cache, which agreed or not.
 fn compare(disk: &MemDisk, behind: &MemDisk, agreed: bool) -> anyhow::Result<()> {
-    let accesses = disk.reads().wrapping_add(disk.writes());
     ensure!(agreed, "another block without memory");
     ensure!(
-        behind.reads() == accesses,
+        behind.reads() == disk.reads() && behind.writes() == disk.writes(),
         "a block was held without memory"
     );
     ensure!(behind.bytes() == disk.bytes(), "other bytes without memory");

@@ -44,6 +44,8 @@ enum Act {
     Put(usize, u8, bool),
     /// Writes this byte into that many bytes of a block, from the first on.
     Fill(usize, usize, u8),
+    /// Writes this byte into all bytes of a block at once.
+    Whole(usize, u8),
     /// Reads a block, which has this first byte.
     Read(usize, Option<u8>),
     /// Reads the blocks from one to before another in turn.
@@ -66,6 +68,10 @@ fn fills(cache: &mut Cache<FailAt<MemDisk>>, n: usize, count: usize, value: u8) 
         }
     }
     true
+}
+
+fn writes_whole(cache: &mut Cache<FailAt<MemDisk>>, n: usize, value: u8) -> bool {
+    n < cache.blocks() && cache.write(n, 0, &[value; 1024]).is_ok()
 }
 
 fn reads_all(cache: &mut Cache<FailAt<MemDisk>>, from: usize, to: usize) -> bool {
@@ -91,6 +97,7 @@ fn does(cache: &mut Cache<FailAt<MemDisk>>, act: Act) -> bool {
     match act {
         Act::Put(n, value, is_good) => put(cache, n, 0, value) == is_good,
         Act::Fill(n, count, value) => fills(cache, n, count, value),
+        Act::Whole(n, value) => writes_whole(cache, n, value),
         Act::Read(n, first) => byte(cache, n, 0) == first,
         Act::ReadAll(from, to) => reads_all(cache, from, to),
         Act::Flushes(count) => flushes(cache, count),
@@ -131,7 +138,7 @@ struct Case {
 // What is on a disk whose block 1 got 100 bytes.
 const FILLED: &[(usize, u8)] = &[(1023, 0), (1024, 7), (1123, 7), (1124, 0)];
 
-static CASES: [Case; 11] = [
+static CASES: [Case; 12] = [
     Case {
         name: "thirty blocks are held",
         blocks: 30,
@@ -176,6 +183,20 @@ static CASES: [Case; 11] = [
         reads: 1,
         writes: 1,
         bytes: FILLED,
+    },
+    Case {
+        name: "a block that is written whole is not read",
+        blocks: 2,
+        good: NEVER,
+        acts: &[
+            Act::Whole(1, 7),
+            Act::Put(1, 8, true),
+            Act::Read(1, Some(8)),
+            Act::Flushes(1),
+        ],
+        reads: 0,
+        writes: 1,
+        bytes: &[(1023, 0), (1024, 8), (1025, 7), (2047, 7)],
     },
     Case {
         name: "the block used longest ago leaves",

@@ -15,6 +15,9 @@ const SPINS: &str = "start: j start\n";
 // Ends with the count of ticks.
 const ASKS: &str = "    li a7, 14\n ecall\n li a7, 2\n ecall\n";
 
+// Sleeps for two ticks, and ends.
+const SLEEPS: &str = "    li a0, 2\n li a7, 13\n ecall\n li a0, 3\n li a7, 2\n ecall\n";
+
 // Reads an empty pipe, whose other end it holds itself.
 const WAITS: &str = "\
     la a0, ends\n li a7, 4\n ecall\n la a1, ends\n lw a0, 0(a1)\n li a2, 1\n li a7, 5\n ecall\nends: .zero 8\n";
@@ -36,7 +39,7 @@ struct Row {
     status: u8,
 }
 
-static ROWS: [Row; 8] = [
+static ROWS: [Row; 9] = [
     Row {
         text: ENDS,
         ticks: None,
@@ -112,6 +115,17 @@ static ROWS: [Row; 8] = [
             "\nnot tried: every time at which a process may call uptime\n",
         ],
         status: 3,
+    },
+    Row {
+        text: SLEEPS,
+        ticks: None,
+        states: 1000,
+        wanted: Some(3),
+        parts: &[
+            "1 outcome under all schedules of fewer than 2^32 ticks: ",
+            "   halt 1 InitEnded 3   ",
+        ],
+        status: 0,
     },
     Row {
         text: WAITS,

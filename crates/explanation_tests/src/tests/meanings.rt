@@ -46,9 +46,10 @@ static NAMES: [(&str, &[&str], Option<&str>); 5] = [
 // A manifest, and the line, the path and the fault of what does not fit in it.
 type Manifest = (&'static str, Option<(usize, &'static str, u8)>);
 
-static MANIFESTS: [Manifest; 3] = [
+static MANIFESTS: [Manifest; 4] = [
     ("dir /a\nfile /a/b x\ndir /a\n", Some((3, "/a", 2))),
     ("file /a/b x\n", Some((1, "/a/b", 5))),
+    ("dev /a 1 1\nfile /a/b x\n", Some((2, "/a/b", 5))),
     ("dev /console 1 0\n", None),
 ];
 
@@ -104,6 +105,10 @@ fn expect_last_line(rt: &impl Abort) {
     let written = noting.write_all(b"1 run 4096\nfault 5 NoInit\n");
     expect_that(rt, name, "written", written.is_ok());
     expect_that(rt, name, "kept", noting.line() == "fault 5 NoInit");
+    let written = noting.write_all(&[b'x'; 256]);
+    let name = ("the last line", "the longest");
+    expect_that(rt, name, "written", written.is_ok());
+    expect_that(rt, name, "kept", noting.line().len() == 256);
 }
 
 fn expect_meanings(rt: &impl Abort) {

@@ -1,9 +1,9 @@
 //! What a call asks of the kernel before it does anything.
-ghost use Rattle.std.specs.Prelude.{◌≡◌, ◌<◌, ◌≤◌, ◌≢◌, All, IfOk, IfSome, Some, false, is_some, length, not, take};
+ghost use Rattle.std.specs.Prelude.{◌≡◌, ◌<◌, ◌≤◌, ◌≢◌, All, IfSome, Some, false, is_some, length, not, take};
 ghost use Rattle.std.specs.Prelude.{true};
 ghost use Rattle.files.specs.Meant.{end_of};
 ghost use Rattle.files.specs.Places.{file_at, free_count, has_end, node_at, opens_of, readable_at, writable_at};
-ghost use Rattle.proc.specs.Places.{is_child_of, place_where, seat_of};
+ghost use Rattle.proc.specs.Places.{is_child_of, place_where};
 ghost use Rattle.spaces.specs.Spaces.{bytes_in, has_pipe, view_at};
 ghost use Rattle.tree.specs.Whole.{IsWhole};
 ghost use Rattle.unixmodel.specs.Files.{free_slot};
@@ -16,7 +16,7 @@ use crate::kernel::Kernel;
 use blockdev::BlockDev;
 use console::Console;
 use files::{End, FileFault, OpenFile, Target};
-use proc::{ProcFault, Seat, Table};
+use proc::Table;
 use spaces::Spaces;
 use sv39::Translate;
 
@@ -52,15 +52,6 @@ impl<D: BlockDev, T: Translate> Kernel<D, T> {
         ensures { result.now ≡ self.now.console }
     {
         &self.console
-    }
-
-    /// The slot and the pid of the next process.
-    #[inline]
-    pub fn next_seat(&self) -> Result<Seat, ProcFault>
-        ensures seat { result ≡ seat_of self.now.table }
-        ensures within { IfOk result (λ seat. seat.place < 64) }
-    {
-        self.table.next_seat()
     }
 
     /// Whether the process with a pid has a child.

@@ -1,15 +1,25 @@
 //! The kernel's steps on the running process, and on others.
-ghost use Rattle.std.specs.Prelude.{◌≡◌, ◌<◌};
-ghost use Rattle.kernel.specs.Processes.{Forks, MayFork, MayWorkIn, WorksIn, collected, home_at};
+ghost use Rattle.std.specs.Prelude.{◌≡◌};
+ghost use Rattle.kernel.specs.Processes.{Forks, MayFork, MayWorkIn, WorksIn, child_of, collected, home_at};
 ghost use Rattle.proc.specs.Places.{reaped_at, zombie_place};
 ghost use Rattle.tree.specs.Tree.{Serves};
 
 use crate::descriptors::{let_one_go, share_all};
 use crate::kernel::Kernel;
 use blockdev::{BlockDev, DeviceFault};
-use proc::{Process, Reaped, Seat};
+use proc::{Process, Reaped};
 use sv39::Translate;
 use unixmodel::process::Mode;
+
+// A process becomes a child of itself, without a pid of its own yet: it is ready, and a0 is 0.
+fn make_child(process: &mut Process)
+    ensures { process.new ≡ child_of process.old }
+{
+    process.parent = process.pid;
+    process.registers[10] = 0;
+    process.killed = false;
+    process.mode = Mode::Ready;
+}
 
 impl<D: BlockDev, T: Translate> Kernel<D, T> {
     // The directory that the process in slot `at` works in.
@@ -19,32 +29,27 @@ impl<D: BlockDev, T: Translate> Kernel<D, T> {
         Some(self.table.process(at)?.directory)
     }
 
-    /// A child of the running process takes a seat, which is the next one: it is ready, with the same pages,
-    /// descriptors and directory, and a0 is 0. `false`: the frames don't suffice; then nothing changes.
+    /// The running process has a child, whose pid is the result: it is ready, with the same pages, descriptors and
+    /// directory, and a0 is 0. `None`: no slot, pid or frames are left for it; then nothing changes.
     #[inline]
-    pub fn fork(&mut self, at: usize, seat: Seat) -> bool
-        requires may { MayFork self.old at seat }
-        requires within { seat.place < 64 }
-        ensures { Forks self.old self.new at seat result }
+    pub fn fork(&mut self, at: usize) -> Option<u32>
+        requires { MayFork self.old at }
+        ensures { Forks self.old self.new at result }
     {
         self.is_sound();
-        let process = self.on_hart(at).unwrap();
+        let Ok(seat) = self.table.next_seat() else {
+            return None;
+        };
+        let mut process = self.on_hart(at).unwrap();
         if !self.spaces.copy(at, seat.place) {
-            return false;
+            return None;
         }
         share_all(&mut self.files, &process.descriptors);
         self.tree.hold(process.directory as usize);
-        let mut registers = process.registers;
-        registers[10] = 0;
-        let _seat = self.table.alloc(Process {
-            parent: process.pid,
-            registers,
-            killed: false,
-            mode: Mode::Ready,
-            ..process
-        });
+        make_child(&mut process);
+        self.table.take_seat(process, seat);
         self.table.wake(seat.place);
-        true
+        Some(seat.pid)
     }
 
     /// Waits for the first zombie child of a process: its slot and its space are free then. `None`: there is no zombie

@@ -1,7 +1,7 @@
 //! What a machine reports of what its processes hold: their descriptors, the open files and the pipes; and a number
 //! that stands for all of its state.
 ghost use Rattle.std.specs.Prelude.{◌≡◌, ◌++◌, IfSome, false, is_some, option_map};
-ghost use Rattle.digests.specs.Digest.{digest_of};
+ghost use Rattle.digests.specs.Digest.{digest_but_numbers, digest_of};
 ghost use Rattle.kernel.specs.Shows.{descriptors_on};
 ghost use Rattle.machine.specs.Holdings.{IsOfKind, file_told, holdings_of};
 ghost use Rattle.machine.specs.Looks.{LookGives};
@@ -83,10 +83,11 @@ impl<D: BlockDev, T: Translate> Machine<D, T> {
         Ok(digest?)
     }
 
-    /// The same without the count of ticks: machines whose states are alike, equal except that their clocks differ and
-    /// each sleeping process has slept as long, have equal ones.
+    /// The same without the count of ticks and the numbers of open files and pipes: machines whose states are alike,
+    /// equal except that these differ and each sleeping process has slept as long, have equal ones. Which descriptors
+    /// share an open file, and which open files a pipe, doesn't go in.
     pub fn digest_but_ticks(&mut self) -> Result<u64, Halt>
-        ensures { LookGives self.old self.new (λ digest. digest ≡ digest_of (timeless self.old.state)) result }
+        ensures { LookGives self.old self.new (λ digest. digest ≡ digest_but_numbers (timeless self.old.state)) result }
     {
         if self.failed {
             return Err(Halt::Halted);

@@ -1,7 +1,7 @@
 //! Whether the states of two machines are alike.
 ghost use Rattle.std.specs.Prelude.{◌≡◌, true};
 ghost use Rattle.machine.specs.Matching.{MatchGives};
-ghost use Rattle.schedules.specs.Alike.{Alike};
+ghost use Rattle.renumbering.specs.Alike.{AlikeUpToNumbers};
 
 use super::Machine;
 use blockdev::BlockDev;
@@ -10,9 +10,9 @@ use likeness::{Side, are_alike};
 use sv39::Translate;
 
 impl<D: BlockDev, T: Translate> Machine<D, T> {
-    /// Whether the state of another machine is alike: equal, except that the clocks may differ, and each sleeping
-    /// process has slept as long. A yes is right; states that are alike may rarely be told from one another. Both
-    /// machines stay as they are.
+    /// Whether the state of another machine is alike: equal, except that the clocks and the numbers of open files and
+    /// pipes may differ, and each sleeping process has slept as long. A yes is right; of states that are alike a no is
+    /// rare. Both machines stay as they are.
     ///
     /// `Device`: an access of one of the two devices failed, as at a step; `Halted` where one had failed earlier.
     pub fn matches<E: BlockDev, U: Translate>(
@@ -20,7 +20,7 @@ impl<D: BlockDev, T: Translate> Machine<D, T> {
         other: &mut Machine<E, U>,
     ) -> Result<bool, Halt>
         ensures { MatchGives self.old self.new other.old other.new
-            (λ yes. yes ≡ true → Alike self.old.state other.old.state) result }
+            (λ yes. yes ≡ true → AlikeUpToNumbers self.old.state other.old.state) result }
     {
         if self.failed || other.failed {
             return Err(Halt::Halted);

@@ -16,5 +16,5 @@ returns-in-Some g c =
     place-done c.args.clock c.args.kernel.now c.args.at c.args.digest c.size.result c.mix_process.result
     c.mix_memory.result c.in-Some.process
     (sym c.in-Some.is ∙ c.whole.ensures.process) (rw c.spaces-spaces.ensures at c.size.ensures)
-    (rw c.process_by-process.ensures at c.mix_process.ensures)
+    (rw c.bare_by-process.ensures at c.mix_process.ensures)
     (rw c.spaces-spaces.ensures at c.mix_memory.ensures)

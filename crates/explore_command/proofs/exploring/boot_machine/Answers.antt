@@ -13,6 +13,8 @@ returns-in-Ok-clause-begun c whole =
       accepted = subst (λ image. IsAccepted image booted.files) same booted.accepted;
       starts = subst (λ image. start_from image booted.files c.args.words.now.frames ≡ Some c.in-Ok.machine.state) same
           booted.starts;
+      awake = c.nobody_sleeps_at_a_start.ensures.starts booted.files _ c.args.words.now.frames c.in-Ok.machine.state
+          booted.starts;
     }
 
 pub returns-in-Ok-clause-tidy : goal.returns-in-Ok-clause-tidy

@@ -1,5 +1,5 @@
 use Rattle.imagemake.proofs.Common.{◌+◌, arith, length, subst, err_from_is_err_and, with_manifest_entry, AddsEntry}
-use Rattle.imagemake.proofs.Common.{Refuses, entry_of}
+use Rattle.imagemake.proofs.Common.{Refuses, entry_at, entry_of}
 use Rattle.imagemake.proofs.MadeSearch.{going-more, going-root, makes-entries, refused-going}
 use Rattle.imagemake.proofs.Putting.{Owns-done, Owns-told, told_err}
 use Rattle.imagemake.proofs.entry.add_entries.Goals as goal
@@ -24,7 +24,9 @@ returns-in_err-add_entry-clause-refused g c =
     (refused-going _ c.loop-entry.entry-index c.entry-item.result c.loop-entry-test.true c.loop-entry.invariant.going
     fault
     (subst (λ e. Refuses (with_manifest_entry tree.block_limit (length tree.files) tree.files (length made + 2)
-    (entry_of e)) fault) c.entry-item.is c.in_err-add_entry.ensures.refused))
+    (entry_of e)) fault) c.entry-item.is
+    (subst (λ p. Refuses (with_manifest_entry tree.block_limit (length tree.files) tree.files (length made + 2)
+    (entry_at p c.entry-item.result.thing)) fault) c.as_slice.ensures.value c.in_err-add_entry.ensures.refused)))
 
 pub returns-in_err-add_entry-clause-cause : goal.returns-in_err-add_entry-clause-cause
 returns-in_err-add_entry-clause-cause g c =
@@ -34,7 +36,9 @@ pub loop-entry-preserved : goal.loop-entry-preserved
 loop-entry-preserved g c = record {
   going = going-more _ c.loop-entry.entry-index c.entry-item.result c.loop-entry-test.true c.loop-entry.invariant.going
       (subst (λ e. AddsEntry c.loop-entry.tree c.add_entry.new.tree c.loop-entry.made.items c.add_entry.new.made.items
-      (entry_of e)) c.entry-item.is c.in_ok-add_entry.ensures.added);
+      (entry_of e)) c.entry-item.is
+      (subst (λ p. AddsEntry c.loop-entry.tree c.add_entry.new.tree c.loop-entry.made.items c.add_entry.new.made.items
+      (entry_at p c.entry-item.result.thing)) c.as_slice.ensures.value c.in_ok-add_entry.ensures.added));
   room = c.in_ok-add_entry.ensures.room;
   failures = omega (arith, c.loop-entry.invariant.failures, c.add_entry.ensures.cause.later);
 }

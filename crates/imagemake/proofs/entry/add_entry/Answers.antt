@@ -1,5 +1,5 @@
-use Rattle.imagemake.proofs.Common.{◌≡◌, ◌+◌, ap, arith, length, refl, sym, subst, ◌∙◌, length_push}
-use Rattle.imagemake.proofs.Common.{err_from_is_err_and, with_manifest_entry, Refuses, thing_of, le-leb}
+use Rattle.imagemake.proofs.Common.{◌≡◌, ◌+◌, ap, arith, length, refl, ◌∙◌, length_push}
+use Rattle.imagemake.proofs.Common.{err_from_is_err_and, thing_of, le-leb}
 use Rattle.imagemake.proofs.MadeSearch.{AddsEntry-stored, CanAdd-next, made-few, refused-stored, entry-spot}
 use Rattle.imagemake.proofs.Putting.{Owns-done, Owns-other, Blames-stored, none-done, told_err}
 use Rattle.imagemake.proofs.Things.{folder-thing}
@@ -28,11 +28,8 @@ returns-in_err-spot g c =
       added = none-done _ told;
       room = none-done _ told;
       refused = rw (err.1, err.2)
-          (subst (λ path. Refuses (with_manifest_entry t.block_limit (length t.files) t.files (length made + 2)
-          (record { path = path; thing = thing_of c.args.entry.now.thing })) c.in_err-spot.field-0.0)
-          c.as_slice-path.ensures.value
           (c.in_err-spot.ensures.refused t.block_limit (length t.files) t.files (length made + 2)
-          (thing_of c.args.entry.now.thing) c.requires.made.listed));
+          (thing_of c.args.thing.now) c.requires.made.listed);
       cause = Owns-other (omega arith) c.in_err-spot.ensures.memory told;
     }
 
@@ -40,10 +37,8 @@ pub returns-then-number-numbers-clause-refused : goal.returns-then-number-number
 returns-then-number-numbers-clause-refused g c =
     let t = c.args.tree.now in
     let made = c.args.made.now.items in
-    let thing = thing_of c.args.entry.now.thing in
-    ap (λ path. with_manifest_entry t.block_limit (length t.files) t.files (length made + 2)
-    (record { path = path; thing = thing })) (sym c.as_slice-path.ensures.value)
-    ∙ entry-spot c.in_ok-spot.ensures.spot t.block_limit (length t.files) t.files (length made + 2) thing
+    let thing = thing_of c.args.thing.now in
+    entry-spot c.in_ok-spot.ensures.spot t.block_limit (length t.files) t.files (length made + 2) thing
     c.requires.made.listed
     ∙ rw (le-leb (length t.files) (length made + 2)
     (omega (arith, c.if-number-numbers.true, c.len-number.ensures, c.numbers.ensures))) refl
@@ -71,7 +66,7 @@ returns-in_err-store_entry g c =
           (refused-stored c.is_whole.ensures c.requires.made c.in_ok-spot.ensures.spot
           (omega (arith, c.if-number-numbers.false, c.len-number.ensures, c.numbers.ensures))
           (ap (λ k. k + 2) c.len-number.ensures)
-          (thing_of c.args.entry.now.thing) c.in_err-store_entry.ensures c.as_slice-path.ensures.value
+          (thing_of c.args.thing.now) c.in_err-store_entry.ensures refl
           c.in_err-store_entry.field-0.0 refl);
       cause = Blames-stored c.in_err-store_entry.field-0.0 (omega arith) c.in_err-store_entry.ensures.owns told;
     }
@@ -90,7 +85,7 @@ returns g c =
     let adds = AddsEntry-stored c.is_whole.ensures c.requires.made c.in_ok-spot.ensures.spot
     (omega (arith, c.if-number-numbers.false, c.len-number.ensures, c.numbers.ensures))
     (ap (λ k. k + 2) c.len-number.ensures)
-    (thing_of _) c.in_ok-store_entry.ensures c.as_slice-path.ensures.value refl c.push.ensures.items
+    (thing_of _) c.in_ok-store_entry.ensures refl refl c.push.ensures.items
     (c.is_directory.ensures ∙ folder-thing _ c.in_ok-spot.spot.directory _) in
     record {
       added = adds;

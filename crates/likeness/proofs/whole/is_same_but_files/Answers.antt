@@ -5,11 +5,9 @@ use Rattle.likeness.specs.Likeness.{AreSameButFiles}
 use Rattle.likeness.proofs.whole.is_same_but_files.Goals as goal
 
 pub returns : goal.returns
-returns g c = OnTrue_from c.has_same_places.result
+returns g c = OnTrue_from c.have_pairs.result
     (AreSameButFiles (state_of c.args.one.now) (state_of c.args.other.now)) (λ agreed. record {
-      places = OnTrue_at agreed c.has_same_places.ensures;
-      opens = c.if-not-has_same_opens.ensures;
-      pipes = c.if-not-has_same_pipes.ensures;
+      pairs = OnTrue_at agreed c.have_pairs.ensures;
       console = rw (c.console.ensures, c.console-2.ensures) at c.if-not-has_same_typed.ensures;
       next_pid = next-same c.args.one.now c.args.other.now _ _ c.table.ensures c.table-2.ensures
           c.if-not-has_same_counts.ensures.next;

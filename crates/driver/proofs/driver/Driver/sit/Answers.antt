@@ -1,6 +1,6 @@
 use Rattle.std.proofs.Common.{ap, sym, ◌∙◌}
 use Rattle.driver.proofs.Sitting.{session-ends, session-goes-on, session-halts, session-halts-first, session-lost}
-use Rattle.driver.proofs.Sitting.{session-tires, sits-begins, sits-flushed}
+use Rattle.driver.proofs.Sitting.{session-tires, sits-asked, sits-begins, sits-flushed}
 use Rattle.driver.proofs.Walking.{far-up, lost}
 use Rattle.driver.proofs.driver.Driver.sit.Goals as goal
 
@@ -20,11 +20,12 @@ returns-then-is_err g c =
 pub returns-then-is_end : goal.returns-then-is_end
 returns-then-is_end g c =
     let f = c.flush.ensures in
-    rw c.ask-given.ensures.kept
-    (session-ends
+    session-ends
+    (sits-asked
     (sits-flushed c.loop-moves.invariant f.machine (ap g.R.Terminal.gives f.keeper) (ap g.R.Record.kept f.keeper)
     f.clock f.kept f.later)
-    c.ask-given.result c.ask-given.ensures.gives (sym c.is_end.ensures ∙ c.if-is_end.true))
+    c.ask-given.ensures.kept)
+    c.ask-given.result c.ask-given.ensures.gives (sym c.is_end.ensures ∙ c.if-is_end.true)
 
 pub obey-requires-clause-up : goal.obey-requires-clause-up
 obey-requires-clause-up g c = rw c.flush.ensures.machine (far-up c.loop-moves.invariant.far)
@@ -40,18 +41,22 @@ returns-in_err-obey g c =
     let f = c.flush.ensures in
     rw (lost _ c.from_residual-in_err-obey.ensures.1, c.obey.ensures.gives)
     (session-halts
+    (sits-asked
     (sits-flushed c.loop-moves.invariant f.machine (ap g.R.Terminal.gives f.keeper) (ap g.R.Record.kept f.keeper)
     f.clock f.kept f.later)
-    c.ask-given.result c.ask-given.ensures.gives (rw c.ask-given.ensures.kept at c.in_err-obey.ensures.given))
+    c.ask-given.ensures.kept)
+    c.ask-given.result c.ask-given.ensures.gives c.in_err-obey.ensures.given)
 
 pub loop-moves-preserved : goal.loop-moves-preserved
 loop-moves-preserved g c =
     let f = c.flush.ensures in
     rw c.obey.ensures.gives
     (session-goes-on
+    (sits-asked
     (sits-flushed c.loop-moves.invariant f.machine (ap g.R.Terminal.gives f.keeper) (ap g.R.Record.kept f.keeper)
     f.clock f.kept f.later)
-    c.ask-given.result c.ask-given.ensures.gives (rw c.ask-given.ensures.kept at c.in_ok-obey.ensures.given))
+    c.ask-given.ensures.kept)
+    c.ask-given.result c.ask-given.ensures.gives c.in_ok-obey.ensures.given)
 
 pub returns : goal.returns
 returns g c = session-tires c.loop-moves.invariant c.loop-moves-test.false c.loop-moves.auto._moves-end

@@ -1,0 +1,4 @@
+pub mod Numbers
+pub mod Lasting
+pub mod Settling
+pub mod Laws

@@ -1,9 +1,0 @@
-use Rattle.proc.proofs.Common.{ap, arith, refl, ◌≤◌, Places}
-use Rattle.proc.proofs.Waiting.{seat-pid, sound-put}
-use Rattle.proc.proofs.table.Table.alloc.Goals as goal
-
-pub invariant_of-self : goal.invariant_of-self
-invariant_of-self c =
-    let low : c.args.self.now.next_pid ≤ 2147483647 = seat-pid c.args.self.now c.in_ok-seat.ensures.seat in
-    let same = ap (λ (t : Places). t.next_pid) c.self.view_is in
-    sound-put c.self.invariant _ _ refl (omega arith) c.set.ensures
