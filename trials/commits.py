@@ -76,7 +76,7 @@ class Process:
         self.resize(size)
 
     def resize(self, size):
-        """Its pages are those that so many bytes begin in; those that come are 0."""
+        """Its pages are those in which that many bytes begin; those that come are 0."""
         length = -(-size // PAGE) * PAGE
         del self.memory[length:]
         self.memory.extend(bytes(length - len(self.memory)))

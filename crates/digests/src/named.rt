@@ -12,8 +12,8 @@ use crate::opened::{mix_pipe, mix_target};
 use blockdev::BlockDev;
 use files::{End, Target};
 use kernel::Kernel;
-use proc::PLACES;
 use sv39::Translate;
+use unixmodel::limits::PROCESSES;
 
 // What an open file is open on goes in, a pipe as its bytes.
 fn mix_on<D: BlockDev, T: Translate>(digest: u64, kernel: &Kernel<D, T>, target: Target) -> u64
@@ -91,7 +91,7 @@ pub fn mix_holders<D: BlockDev, T: Translate>(digest: u64, kernel: &Kernel<D, T>
     ensures { result ≡ holders_mixed (state_of kernel.now) digest }
 {
     let mut digest = digest;
-    for at in 0..PLACES {
+    for at in 0..PROCESSES {
         digest = mix_holder(digest, kernel, at);
     }
     digest

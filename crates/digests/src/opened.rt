@@ -9,10 +9,10 @@ ghost use Rattle.unixmodel.specs.Files.{slot};
 use crate::mixing::{flag, mix, mix_each, mix_numbers};
 use blockdev::BlockDev;
 use console::Console;
-use files::{End, PLACES, Target};
+use files::{End, Target};
 use kernel::Kernel;
-use spaces::PIPES;
 use sv39::Translate;
+use unixmodel::limits::{OPEN_FILES, PIPES};
 
 /// What an open file is open on goes in.
 pub fn mix_target(digest: u64, target: Target) -> u64
@@ -53,7 +53,7 @@ pub fn mix_opens<D: BlockDev, T: Translate>(digest: u64, kernel: &Kernel<D, T>) 
     ensures { result ≡ opens_mixed digest (state_of kernel.now).opens }
 {
     let mut digest = digest;
-    for id in 0..PLACES {
+    for id in 0..OPEN_FILES {
         digest = mix_open(digest, kernel, id);
     }
     digest

@@ -13,14 +13,12 @@ ghost use Rattle.unixmodel.specs.State.{process_at};
 use crate::mixing::{flag, mix, mix_bytes, mix_numbers};
 use blockdev::BlockDev;
 use kernel::Kernel;
-use proc::{PLACES, Process};
+use proc::Process;
 use spaces::Spaces;
 use sv39::Translate;
 use unixmodel::call::Call;
+use unixmodel::limits::{DESCRIPTORS, PROCESSES};
 use unixmodel::process::{Mode, Pending};
-
-/// How many descriptors a process has.
-const DESCRIPTORS: usize = 16;
 
 // The number of a call that can wait.
 fn waiting_number(call: Call) -> u64
@@ -199,7 +197,7 @@ pub fn mix_places<D: BlockDev, T: Translate>(
     ensures { result ≡ places_mixed digest (by_clock clock (state_of kernel.now)) }
 {
     let mut digest = digest;
-    for at in 0..PLACES {
+    for at in 0..PROCESSES {
         digest = mix_place(digest, kernel, clock, at);
     }
     digest

@@ -18,6 +18,6 @@ pub use play::Unreached;
 pub use script::Script;
 pub use source::Source;
 pub use tail::Tail;
-pub use terminal::{Given, MOST_KEYS, Mood, Terminal};
+pub use terminal::{Given, Mood, Terminal};
 pub use wanted::{Walked, Wanted};
 pub use watch::{Detail, Nobody, Watch};

@@ -5,9 +5,7 @@ use blockdev::BlockDev;
 use events::Record;
 use machine::Machine;
 use sv39::Translate;
-
-/// The most keys that a keyboard gives at once: half of what a machine keeps of a typed line.
-pub const MOST_KEYS: usize = 64;
+use unixmodel::limits::MOST_KEYS;
 
 /// What a keyboard gives when it is asked.
 #[derive(Drop)]

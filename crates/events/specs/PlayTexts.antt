@@ -73,7 +73,7 @@ unended deed = deed
 abbrev pub bare : Act → Act
 bare act = record { line = act.line; deed = unended act.deed }
 
--- the play is what the text says, but for where its repeats end
+-- the play is what the text says, except where its repeats end
 abbrev pub IsPlayOf : List ℕ → List Act → Type 0
 IsPlayOf text acts = AreActs 1 (lines_of text) (map bare acts)
 

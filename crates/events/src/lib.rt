@@ -25,6 +25,6 @@ pub use manifest::Line;
 pub use place::Place;
 pub use reading::parse_play;
 pub use record::{Record, Unrecorded};
-pub use row::{MOST_KEYS, Row};
+pub use row::Row;
 pub use script::{Command, bytes_of, count, pair_value};
 pub use transcript::Transcript;

@@ -4,9 +4,7 @@ ghost use Rattle.events.specs.Rows.{byte_text, bytes_text, row_events, row_text,
 
 use arrayvec::ArrayVec;
 use std::alloc::AllocError;
-
-/// The most keys of a row.
-pub const MOST_KEYS: usize = 64;
+use unixmodel::limits::MOST_KEYS;
 
 /// Events of one kind, one after the other.
 #[derive(Drop)]

@@ -8,4 +8,4 @@ mod file;
 mod table;
 
 pub use file::{End, OpenFile, Target};
-pub use table::{FileFault, Files, PLACES};
+pub use table::{FileFault, Files};

@@ -12,9 +12,7 @@ use crate::file::{End, OpenFile, Target};
 use arrayvec::ArrayVec;
 use std::marker::Model;
 use thiserror::Error;
-
-/// How many slots there are.
-pub const PLACES: usize = 100;
+use unixmodel::limits::OPEN_FILES;
 
 /// Why a call on an open file is refused.
 #[derive(Clone, Copy, Debug, PartialEq, Eq, Error)]
@@ -110,7 +108,7 @@ impl Files {
         ensures { result ≡ free_slots 100 }
     {
         Files {
-            slots: ArrayVec::from_array_in((), [None; 100]),
+            slots: ArrayVec::from_array_in((), [None; OPEN_FILES]),
         }
     }
 

@@ -4,9 +4,7 @@ ghost use Rattle.std.specs.Prelude.{length, option_map, slice_index_or, slice_se
 ghost use Rattle.gdbanswers.specs.Files.{AllOpen, Opens, closed, file_at};
 
 use std::alloc::{AllocError, Global};
-
-/// The most files that are open at once.
-const MOST_FILES: usize = 16;
+use unixmodel::limits::DESCRIPTORS;
 
 /// Open files, by the numbers from 1 on.
 #[derive(Drop)]
@@ -47,7 +45,7 @@ impl OpenFiles {
             self.files[index] = Some(bytes);
             return Ok(Some(index as u64 + 1));
         }
-        if self.files.len() >= MOST_FILES {
+        if self.files.len() >= DESCRIPTORS {
             return Ok(None);
         }
         self.files.push(Some(bytes))?;

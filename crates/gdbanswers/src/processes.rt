@@ -11,9 +11,7 @@ use gdbmotions::Points;
 use machine::ProcessState;
 use std::alloc::{AllocError, Global};
 use timeline::Debuggee;
-
-/// As many processes as a machine has at most.
-pub(crate) const MOST_PROCESSES: u32 = 64;
+use unixmodel::limits::PROCESSES;
 
 /// Whether there is a process with a pid that has not ended.
 pub fn is_alive(machine: &Debuggee, pid: u32) -> bool
@@ -62,7 +60,7 @@ pub fn pids_of(alloc: Global, machine: &Debuggee, points: &Points) -> Result<Vec
 // The first process that gdb holds; process 1 where it holds none.
 fn first(machine: &Debuggee, points: &Points) -> u32 {
     let mut last = 0;
-    for _process in 0..MOST_PROCESSES {
+    for _process in 0..PROCESSES {
         let Some(pid) = machine.next_pid(last) else {
             break;
         };

@@ -4,13 +4,13 @@ ghost use Rattle.std.specs.Fmt.{decimal};
 ghost use Rattle.gdbreplies.specs.Replies.{description, part_sent};
 ghost use Rattle.gdbwire.specs.Hex.{hex_bytes};
 
-use crate::processes::MOST_PROCESSES;
 use gdbmotions::Names;
 use gdbreplies::{push_description, push_part};
 use gdbwire::{Part, push_bytes};
 use machine::{ProcessState, Seen};
 use std::alloc::{AllocError, Global};
 use timeline::{Debuggee, Timeline};
+use unixmodel::limits::PROCESSES;
 use waits::{Waiter, wait_of};
 
 // What a process does.
@@ -82,7 +82,7 @@ pub fn who_is_there(
     let machine = timeline.machine();
     let mut text = String::new(alloc);
     let mut last = 0;
-    for _process in 0..MOST_PROCESSES {
+    for _process in 0..PROCESSES {
         let Some(pid) = machine.next_pid(last) else {
             break;
         };

@@ -9,10 +9,9 @@ ghost use Rattle.unixmodel.specs.Files.{slot};
 use crate::pairs::{Pairs, fits_file};
 use blockdev::BlockDev;
 use console::Console;
-use files::PLACES;
 use kernel::Kernel;
-use spaces::PIPES;
 use sv39::Translate;
+use unixmodel::limits::{OPEN_FILES, PIPES};
 
 // Whether open files of two kernels are equal except for their pipes, which are in a pair, or both numbers are free.
 fn fits_opened<D: BlockDev, T: Translate, E: BlockDev, U: Translate>(
@@ -65,7 +64,7 @@ fn are_files_paired<E: BlockDev, U: Translate>(files: &Pairs, other: &Kernel<E, 
     ensures { OnTrue result
         ((l : ℕ) → l < 100 → slot files.now.back l ≡ None → slot (state_of other.now).opens l ≡ None) }
 {
-    for id in 0..PLACES {
+    for id in 0..OPEN_FILES {
         if !is_file_paired(files, other, id) {
             return false;
         }
@@ -87,7 +86,7 @@ pub fn fit_opens<D: BlockDev, T: Translate, E: BlockDev, U: Translate>(
 {
     one.is_sound();
     other.is_sound();
-    for id in 0..PLACES {
+    for id in 0..OPEN_FILES {
         if !fits_open(pipes, files, one, other, id) {
             return false;
         }

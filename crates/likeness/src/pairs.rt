@@ -6,13 +6,14 @@ ghost use Rattle.likeness.specs.Pairing.{Grows, pairs_of};
 ghost use Rattle.renumbering.specs.Pairs.{ArePairs, BothFit, EachFits, FilesFit, IsPair, TargetsFit};
 ghost use Rattle.unixmodel.specs.Files.{slot};
 
-use files::{OpenFile, PLACES, Target};
+use files::{OpenFile, Target};
+use unixmodel::limits::OPEN_FILES;
 
 /// The other number of each number of one kernel, and the way back.
 #[derive(Clone, Copy, Debug)]
 pub struct Pairs {
-    there: [Option<usize>; PLACES],
-    back: [Option<usize>; PLACES],
+    there: [Option<usize>; OPEN_FILES],
+    back: [Option<usize>; OPEN_FILES],
 }
 
 impl Pairs {
@@ -21,8 +22,8 @@ impl Pairs {
         ensures { ArePairs (pairs_of result) 100 }
     {
         Pairs {
-            there: [None; PLACES],
-            back: [None; PLACES],
+            there: [None; OPEN_FILES],
+            back: [None; OPEN_FILES],
         }
     }
 
@@ -30,7 +31,7 @@ impl Pairs {
     pub fn there(&self, number: usize) -> Option<usize>
         ensures { result ≡ slot self.now.there number }
     {
-        if number < PLACES {
+        if number < OPEN_FILES {
             self.there[number]
         } else {
             None
@@ -41,7 +42,7 @@ impl Pairs {
     pub fn back(&self, number: usize) -> Option<usize>
         ensures { result ≡ slot self.now.back number }
     {
-        if number < PLACES {
+        if number < OPEN_FILES {
             self.back[number]
         } else {
             None
@@ -55,7 +56,7 @@ impl Pairs {
         ensures grows { Grows self.old self.new }
         ensures pair { OnTrue result (IsPair (pairs_of self.new) one other) }
     {
-        if one >= PLACES || other >= PLACES {
+        if one >= OPEN_FILES || other >= OPEN_FILES {
             return false;
         }
         self.there[one] = Some(other);

@@ -14,11 +14,12 @@ use crate::pairs::{Pairs, fit_descriptors};
 use blockdev::BlockDev;
 use digests::process_by;
 use kernel::Kernel;
-use proc::{PLACES, Process};
+use proc::Process;
 use ram::FRAME_SIZE;
 use spaces::Spaces;
 use sv39::Translate;
 use unixmodel::call::Call;
+use unixmodel::limits::PROCESSES;
 use unixmodel::process::{Mode, Pending};
 use vm::Marks;
 
@@ -202,7 +203,7 @@ pub fn fit_places<D: BlockDev, T: Translate, E: BlockDev, U: Translate>(
 {
     one.is_sound();
     other.is_sound();
-    for at in 0..PLACES {
+    for at in 0..PROCESSES {
         if !fits_place(files, one, other, at) {
             return false;
         }

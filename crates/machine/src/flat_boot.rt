@@ -19,14 +19,9 @@ use spaces::Spaces;
 use std::alloc::{AllocError, Global};
 use sv39::{Plain, Translate};
 use tree::Tree;
+use unixmodel::limits::{DESCRIPTORS, FEWEST_FRAMES, MOST_FRAMES};
 use unixmodel::process::Mode;
 use vm::{Perm, pages_in};
-
-/// The fewest frames that a machine has.
-const FEWEST: u32 = 64;
-
-/// The most frames that a machine has.
-const MOST: u32 = 32768;
 
 /// The slot of process 1.
 const FIRST: usize = 0;
@@ -93,7 +88,7 @@ fn first(size: u64) -> Process
     let mut registers = [0; 32];
     registers[2] = sp;
     registers[11] = sp;
-    let mut descriptors = [None; 16];
+    let mut descriptors = [None; DESCRIPTORS];
     descriptors[0] = Some(0);
     descriptors[1] = Some(0);
     descriptors[2] = Some(0);
@@ -166,7 +161,7 @@ pub fn boot_flat_with<T: Translate>(
     ensures no_init { IsErrOf result BootFault.NoInit → start_flat bytes.now frames ≡ None }
     ensures only { RefusesFlat result }
 {
-    if frames < FEWEST || frames > MOST {
+    if frames < FEWEST_FRAMES || frames > MOST_FRAMES {
         return Err(BootFault::FrameCount);
     }
     let Ok(tree) = mount_flat(alloc) else {

@@ -23,13 +23,8 @@ use spaces::Spaces;
 use std::alloc::{AllocError, Global};
 use sv39::Translate;
 use tree::Tree;
+use unixmodel::limits::{DESCRIPTORS, FEWEST_FRAMES, MOST_FRAMES};
 use unixmodel::process::Mode;
-
-/// The fewest frames that a machine has.
-const FEWEST: u32 = 64;
-
-/// The most frames that a machine has.
-const MOST: u32 = 32768;
 
 /// The slot of process 1.
 const FIRST: usize = 0;
@@ -119,7 +114,7 @@ fn first(init: &Init) -> Process
         parent: 0,
         registers,
         pc: init.program.header.entry,
-        descriptors: [None; 16],
+        descriptors: [None; DESCRIPTORS],
         directory: 1,
         killed: false,
         mode: Mode::Ready,
@@ -198,7 +193,7 @@ pub fn boot<D: BlockDev, T: Translate>(
     ensures refused { IfErr result (IsUnbooted D.identity D.failures disk (image_of (D.content disk)) frames) }
     ensures count { IsErrOf result BootFault.FrameCount ↔ ((frames < 64) ⊎ (32768 < frames)) }
 {
-    if frames < FEWEST || frames > MOST {
+    if frames < FEWEST_FRAMES || frames > MOST_FRAMES {
         return Err(BootFault::FrameCount);
     }
     match mount(alloc, disk) {

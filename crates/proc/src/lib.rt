@@ -8,5 +8,5 @@ mod waits;
 
 pub use mask::Mask;
 pub use process::{Place, Process};
-pub use table::{PLACES, ProcFault, Reaped, Seat, Table, zombie_child};
+pub use table::{ProcFault, Reaped, Seat, Table, zombie_child};
 pub use waits::WaitKind;

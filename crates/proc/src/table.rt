@@ -17,10 +17,8 @@ use crate::waits::{WaitKind, WaitPlaces};
 use std::alloc::{AllocError, Global};
 use std::marker::Model;
 use thiserror::Error;
+use unixmodel::limits::{DESCRIPTORS, PROCESSES};
 use unixmodel::process::{Mode, Pending};
-
-/// How many slots there are.
-pub const PLACES: usize = 64;
 
 /// The last pid that a process gets.
 const LAST_PID: u32 = 2147483647;
@@ -139,7 +137,7 @@ fn zombie(process: Process, status: i32) -> Process
     ensures { result ≡ zombie_of process status }
 {
     Process {
-        descriptors: [None; 16],
+        descriptors: [None; DESCRIPTORS],
         directory: 0,
         mode: Mode::Zombie(status),
         ..process
@@ -160,8 +158,8 @@ fn status(mode: Mode) -> i32
 fn free_places(alloc: Global) -> Result<Vec<Place>, AllocError>
     ensures { IfOk result (λ places. places.items ≡ free_slots 64) }
 {
-    let mut places = Vec::with_capacity(alloc, PLACES)?;
-    for _ in 0..PLACES {
+    let mut places = Vec::with_capacity(alloc, PROCESSES)?;
+    for _ in 0..PROCESSES {
         places.push(None)?;
     }
     Ok(places)
@@ -188,7 +186,7 @@ impl Table {
         let places = free_places(alloc)?;
         Ok(Table {
             places,
-            last: PLACES - 1,
+            last: PROCESSES - 1,
             next_pid: pid,
             awake: Mask::all(),
             waiting: WaitPlaces::all(),
@@ -391,7 +389,7 @@ impl Table {
     {
         let mut turn = 1;
         'round: while let Some(next) = self.awake.next(self.last, turn) {
-            let at = (self.last + next) % 64;
+            let at = (self.last + next) % PROCESSES;
             if ready(self.places.as_slice(), at) {
                 self.last = at;
                 return Some(at);
@@ -411,9 +409,9 @@ impl Table {
     {
         let mut turn = 1;
         'round: while let Some(next) = self.awake.next(self.last, turn) {
-            let at = (self.last + next) % PLACES;
-            if ready(self.places.as_slice(), at) {
-                return Some(at);
+            let place = (self.last + next) % PROCESSES;
+            if ready(self.places.as_slice(), place) {
+                return Some(place);
             }
             turn = next + 1;
         }

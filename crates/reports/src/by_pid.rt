@@ -3,27 +3,25 @@
 use blockdev::BlockDev;
 use machine::Machine;
 use sv39::Translate;
-
-/// How many processes a machine has at most.
-const MOST_PROCESSES: usize = 64;
+use unixmodel::limits::PROCESSES;
 
 /// A value for each process of which one is known.
 #[derive(Drop)]
 pub(crate) struct ByPid<V> {
-    known: [Option<(u32, V)>; MOST_PROCESSES],
+    known: [Option<(u32, V)>; PROCESSES],
 }
 
 impl<V: Copy> ByPid<V> {
     /// Nothing is known.
     pub(crate) fn new() -> ByPid<V> {
         ByPid {
-            known: [None; MOST_PROCESSES],
+            known: [None; PROCESSES],
         }
     }
 
     /// The value of process 1 is known.
     pub(crate) fn of_first(value: V) -> ByPid<V> {
-        let mut known = [None; MOST_PROCESSES];
+        let mut known = [None; PROCESSES];
         known[0] = Some((1, value));
         ByPid { known }
     }

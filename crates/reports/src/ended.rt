@@ -6,9 +6,7 @@ use blockdev::BlockDev;
 use jsonrows::How;
 use machine::{Machine, ProcessState};
 use sv39::Translate;
-
-/// How many processes a machine has at most.
-const MOST_PROCESSES: usize = 64;
+use unixmodel::limits::PROCESSES;
 
 /// A process that ended, at the event of this number.
 #[derive(Clone, Copy)]
@@ -31,7 +29,7 @@ pub(crate) struct Kill {
 /// The processes that are marked to be killed, and have not ended.
 #[derive(Drop)]
 pub(crate) struct Kills {
-    marked: ArrayVec<Kill, MOST_PROCESSES>,
+    marked: ArrayVec<Kill, PROCESSES>,
 }
 
 /// Whether the process with a pid has ended and was not waited for.

@@ -22,15 +22,13 @@ use sv39::Translate;
 use symbolizer::Symbolizer;
 use tracetext::Asked;
 use unixmodel::event::Event;
+use unixmodel::limits::PROCESSES;
 
 /// How many faults are kept; those that come later are counted.
 const MOST_FAULTS: usize = 64;
 
 /// How many processes that ended are kept; those that end later are counted.
 const MOST_ENDED: usize = 1024;
-
-/// How many processes a machine has at most.
-const MOST_PROCESSES: usize = 64;
 
 /// The word of ecall, and the numbers of fork, exit, kill and exec.
 const ECALL: u32 = 0x73;
@@ -174,12 +172,10 @@ fn parent_of<D: BlockDev, T: Translate>(machine: &Machine<D, T>, pid: u32) -> u3
 }
 
 /// The pids of all processes.
-pub(crate) fn pids<D: BlockDev, T: Translate>(
-    machine: &Machine<D, T>,
-) -> ArrayVec<u32, MOST_PROCESSES> {
+pub(crate) fn pids<D: BlockDev, T: Translate>(machine: &Machine<D, T>) -> ArrayVec<u32, PROCESSES> {
     let mut pids = ArrayVec::new();
     let mut last = 0;
-    for _place in 0..MOST_PROCESSES {
+    for _place in 0..PROCESSES {
         let Some(pid) = machine.next_pid(last) else {
             return pids;
         };

@@ -8,7 +8,7 @@ use crate::scribe::Scribe;
 use arrayvec::ArrayVec;
 use blockdev::BlockDev;
 use commandline::Live;
-use driver::{Given, MOST_KEYS, Mood, Terminal};
+use driver::{Given, Mood, Terminal};
 use events::Record;
 use host::{Failure, Host, Screen, Why};
 use line_editor::{Editor, Keys};
@@ -17,6 +17,7 @@ use std::alloc::Global;
 use std::fmt;
 use std::io::Write;
 use sv39::Translate;
+use unixmodel::limits::{MOST_KEYS, PROCESSES};
 
 /// Control-A: the key after it is for the session, as in QEMU.
 const ESCAPE: u8 = 0x01;
@@ -26,9 +27,6 @@ const SHOW: u8 = 0x10;
 
 /// The key that ends a typed line.
 const LINE_END: u8 = b'\n';
-
-/// The most processes that a machine has.
-const MOST_PROCESSES: usize = 64;
 
 /// The key that ends a session after an escape.
 const LEAVE: u8 = b'x';
@@ -389,7 +387,7 @@ impl<H: Host, S: Screen, E: Write> Terminal for Seat<'_, '_, H, S, E> {
         self.meter.clear();
         let _ = writeln!(self.stderr);
         let mut pid = 0;
-        for _shown in 0..MOST_PROCESSES {
+        for _shown in 0..PROCESSES {
             let Some(next) = machine.next_pid(pid) else {
                 break;
             };

@@ -18,12 +18,7 @@ use std::alloc::Global;
 use std::mem::replace;
 use sv39::Tlb;
 use unixmodel::event::Event;
-
-/// The fewest frames that a machine has.
-const FEWEST: u32 = 64;
-
-/// The most frames that a machine has.
-const MOST: u32 = 32768;
+use unixmodel::limits::{FEWEST_FRAMES, MOST_FRAMES};
 
 /// A machine over a disk in memory, and the bytes of its console that nobody took yet. Such a disk never fails, so no
 /// call returns `Device`.
@@ -44,7 +39,7 @@ impl Session {
         ensures refused { IfErr result (Refuses image.now frames) }
         ensures count { IsErrOf result BootFault.FrameCount ↔ ((frames < 64) ⊎ (32768 < frames)) }
     {
-        if frames < FEWEST || frames > MOST {
+        if frames < FEWEST_FRAMES || frames > MOST_FRAMES {
             return Err(BootFault::FrameCount);
         }
         let Ok(bytes) = Vec::from_slice(alloc, image) else {

@@ -53,14 +53,9 @@ use ram::{FRAME_SIZE, FrameNo, NoMemory, Ram};
 use std::alloc::Global;
 use std::marker::Model;
 use sv39::Translate;
+use unixmodel::limits::{PIPES, PROCESSES};
 use unixmodel::trap::{Access, Cause, Trap};
 use vm::{Marks, Perm, Space};
-
-/// How many slots there are.
-pub const PLACES: usize = 64;
-
-/// How many slots for pipes there are.
-pub const PIPES: usize = 100;
 
 // A read or a write of a pipe by at most that many bytes takes a buffer of that size: a buffer of a pipe's size costs
 // more than the call.
@@ -261,7 +256,7 @@ impl<T: Translate> Spaces<T> {
             ram,
             frames,
             translator,
-            places: ArrayVec::from_array_in((), [FREE; 64]),
+            places: ArrayVec::from_array_in((), [FREE; PROCESSES]),
             hart: Hart {
                 registers: [0; 32],
                 pc: 0,
@@ -269,7 +264,7 @@ impl<T: Translate> Spaces<T> {
             },
             decoded,
             active: None,
-            pipes: ArrayVec::from_array_in((), [None; 100]),
+            pipes: ArrayVec::from_array_in((), [None; PIPES]),
         })
     }
 

@@ -28,12 +28,7 @@ use tracetext::commit_lines::{Act, act_of};
 use tracetext::lines::Outcome;
 use tracetext::{Asked, CallText, Form, Pen, Row, Sinks, Trouble, Wanted};
 use unixmodel::event::Event;
-
-/// The most processes that a machine has.
-const MOST_PROCESSES: usize = 64;
-
-/// The most pipes that a machine has: not more than open files.
-const MOST_PIPES: usize = 100;
+use unixmodel::limits::{PIPES, PROCESSES};
 
 /// The word of `ecall`.
 const ECALL: u32 = 0x73;
@@ -126,8 +121,8 @@ fn coming_of(pid: u32, pc: u64, word: Option<u32>, registers: &[u64; 32]) -> Com
 
 // Empty pipes, as many as there may be.
 fn empty_pipes(alloc: Global) -> Result<Vec<PipeTrack>, AllocError> {
-    let mut pipes = Vec::with_capacity(alloc, MOST_PIPES)?;
-    for _made in 0..MOST_PIPES {
+    let mut pipes = Vec::with_capacity(alloc, PIPES)?;
+    for _made in 0..PIPES {
         pipes.push(PipeTrack::new())?;
     }
     Ok(pipes)
@@ -136,7 +131,7 @@ fn empty_pipes(alloc: Global) -> Result<Vec<PipeTrack>, AllocError> {
 // Tables for all processes and pipes, with no process so far.
 fn empty_tables(alloc: Global) -> Result<(Vec<Lane>, Vec<PipeTrack>), AllocError> {
     let pipes = empty_pipes(alloc)?;
-    Ok((Vec::with_capacity(alloc, MOST_PROCESSES)?, pipes))
+    Ok((Vec::with_capacity(alloc, PROCESSES)?, pipes))
 }
 
 impl<S: Sinks + Drop> Tracer<S> {

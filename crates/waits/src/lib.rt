@@ -6,5 +6,5 @@ mod listing;
 mod prompt;
 
 pub use awaited::{Wait, wait_of};
-pub use listing::{MOST_WAITERS, Waiter, Waiters, who_waits};
+pub use listing::{Waiter, Waiters, who_waits};
 pub use prompt::{is_at_prompt, is_quiet};

@@ -9,9 +9,7 @@ use blockdev::BlockDev;
 use machine::Machine;
 use std::fmt;
 use sv39::Translate;
-
-/// As many processes as a machine has at most.
-pub const MOST_WAITERS: usize = 64;
+use unixmodel::limits::PROCESSES;
 
 /// A process that waits, and for what.
 #[derive(Clone, Copy, Default)]
@@ -36,7 +34,7 @@ impl fmt::Display for Waiter {
 /// Processes that wait, in the order of their pids.
 #[derive(Drop)]
 pub struct Waiters {
-    pub list: ArrayVec<Waiter, MOST_WAITERS>,
+    pub list: ArrayVec<Waiter, PROCESSES>,
 }
 
 impl fmt::Display for Waiters {
@@ -60,7 +58,7 @@ fn waiter_of<D: BlockDev, T: Translate>(machine: &Machine<D, T>, pid: u32) -> Op
 }
 
 // Puts one at the end, if there is one, and returns whether there was room for it.
-fn put(list: &mut ArrayVec<Waiter, MOST_WAITERS>, found: Option<Waiter>) -> bool
+fn put(list: &mut ArrayVec<Waiter, PROCESSES>, found: Option<Waiter>) -> bool
     ensures put { result ≡ true → list.new.items ≡ list.old.items ++ listed found }
     ensures kept { result ≡ false → list.new.items ≡ list.old.items }
     ensures full { result ≡ false → length list.old.items ≡ 64 }

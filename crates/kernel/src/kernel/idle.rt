@@ -14,9 +14,10 @@ ghost use Rattle.unixmodel.specs.Turn.{ready, turn};
 use crate::kernel::Kernel;
 use crate::ready::{Awaited, has_slept};
 use blockdev::BlockDev;
-use proc::{PLACES, Place};
+use proc::Place;
 use sv39::Translate;
 use unixmodel::call::Call;
+use unixmodel::limits::PROCESSES;
 use unixmodel::process::Mode;
 
 // Whether a process is in `sleep`.
@@ -105,8 +106,8 @@ impl<D: BlockDev, T: Translate> Kernel<D, T> {
     {
         let _places = self.table.places();
         let last = self.table.last();
-        for round in 1..PLACES + 1 {
-            let at = (last + round) % PLACES;
+        for round in 1..PROCESSES + 1 {
+            let at = (last + round) % PROCESSES;
             if self.is_ready_next(at) {
                 return Some(at);
             }

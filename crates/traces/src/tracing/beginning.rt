@@ -1,11 +1,12 @@
 //! What a tracer knows of a machine at first.
 
-use super::{MOST_PROCESSES, Tracer};
+use super::Tracer;
 use crate::lanes::{Doing, Lane, doing_in};
 use blockdev::BlockDev;
 use machine::{Machine, Pending, ProcessState, Seen};
 use sv39::Translate;
 use tracetext::{Asked, Sinks};
+use unixmodel::limits::PROCESSES;
 
 /// The program of process 1.
 const FIRST: &[u8] = b"/init";
@@ -63,7 +64,7 @@ impl<S: Sinks + Drop> Tracer<S> {
         self.draw_head();
         self.note_head();
         let mut pid = 0;
-        for _found in 0..MOST_PROCESSES {
+        for _found in 0..PROCESSES {
             let Some(next) = machine.next_pid(pid) else {
                 break;
             };

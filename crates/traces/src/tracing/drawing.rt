@@ -1,12 +1,13 @@
 //! The spans in Chrome's JSON.
 
-use super::{MOST_PIPES, MOST_PROCESSES, Tracer};
+use super::Tracer;
 use crate::pipes::Put;
 use blockdev::BlockDev;
 use machine::Machine;
 use sv39::Translate;
 use tracetext::spans::{Arrow, CALLS, Done, HEAD, Lanes, Next, Period, Point, Span, TAIL};
 use tracetext::{Asked, Form, Sinks};
+use unixmodel::limits::{PIPES, PROCESSES};
 
 // How many bytes a pipe has.
 fn level_of<D: BlockDev, T: Translate>(machine: &Machine<D, T>, number: usize) -> usize {
@@ -168,7 +169,7 @@ impl<S: Sinks + Drop> Tracer<S> {
             return;
         }
         self.draw_last_run();
-        for place in 0..MOST_PROCESSES {
+        for place in 0..PROCESSES {
             self.draw_open(place);
             self.draw_name(place);
         }
@@ -199,7 +200,7 @@ impl<S: Sinks + Drop> Tracer<S> {
         if !self.pen.has(Form::Spans) {
             return;
         }
-        for number in 0..MOST_PIPES {
+        for number in 0..PIPES {
             self.draw_pipe(machine, number, asked, waits);
         }
     }

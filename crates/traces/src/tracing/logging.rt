@@ -1,6 +1,6 @@
 //! The commit log.
 
-use super::{Coming, MOST_PROCESSES, Tracer};
+use super::{Coming, Tracer};
 use crate::memory::{PAGE_SIZE, read};
 use blockdev::BlockDev;
 use machine::{Call, Machine, ProcessState, Seen};
@@ -8,6 +8,7 @@ use sv39::Translate;
 use tracetext::commit_lines::{Commit, CommitLine, target};
 use tracetext::commits::{Comment, Note, ROW};
 use tracetext::{Asked, Form, Sinks};
+use unixmodel::limits::PROCESSES;
 
 /// The bytes that fstat writes.
 const STAT_SIZE: u64 = 24;
@@ -203,7 +204,7 @@ impl<S: Sinks + Drop> Tracer<S> {
         if !self.pen.has(Form::Commits) {
             return;
         }
-        for place in 0..MOST_PROCESSES {
+        for place in 0..PROCESSES {
             if let Some(pid) = self.living(place) {
                 self.log_process(machine, pid);
             }
