@@ -1,4 +1,4 @@
-// Looks at each step of the hart, and notes the kernel calls of the programs, their faults, the switches and the output, each with its position.
+// Notes the kernel calls of the programs, their faults, the switches and the output, each with its position.
 import { isCall } from "./disassembly.js";
 import { faultOf } from "./faults.js";
 import { bytesAt, listAt, textAt } from "./memory.js";
@@ -145,7 +145,8 @@ export class Calls {
   }
 
   /**
-   * So many steps at most, from a position on, each looked at. `stop(pid, machine, position)` is asked before each; none is made once it says so.
+   * That many steps at most, from a position on. `stop(pid, machine, position)` is asked before each; none is made once it says so. Without it the
+   * instructions between calls and faults are not looked at one by one.
    */
   run(machine, position, most, done, stop) {
     let count = 0;
@@ -156,7 +157,11 @@ export class Calls {
       while (count < most) {
         const pid = this.look(machine, position + count);
         if (stop?.(pid, machine, position + count)) break;
-        if (machine.run(1, add) === 0) break;
+        // Up to the next call or fault there is nothing to note.
+        const isComputing = !stop && pid && !this.stepped.isAtCall;
+        const computed = isComputing ? machine.compute(most - count) : 0;
+        if (computed > 0) add(computed);
+        else if (machine.run(1, add) === 0) break;
       }
     } finally {
       this.settle(machine, position + count);

@@ -22,6 +22,8 @@ mod pieces;
 #[cfg(test)]
 mod records;
 #[cfg(test)]
+mod reports_of_many;
+#[cfg(test)]
 mod rounds;
 #[cfg(test)]
 mod samples;

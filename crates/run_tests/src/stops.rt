@@ -4,13 +4,14 @@ use crate::samples;
 use machine::Halt;
 use reports::{Outcome, PlayEnd, Reporter, Told, Wanted};
 use std::alloc::Global;
+use std::process::Abort;
 use sv39::Plain;
 use symbolizer::Symbolizer;
 use unixmodel::event::Event;
 
 const FRAMES: u32 = 64;
 
-const LOOP: &str = "start: j start\n";
+pub(crate) const LOOP: &str = "start: j start\n";
 
 /// Reads a pipe whose both ends it has.
 const DEADLOCK: &str = "
@@ -107,7 +108,7 @@ parent: li a0, 1
 ";
 
 /// What is asked for: a report, as text or as JSON, or the pages or the registers of a process.
-enum Asked {
+pub(crate) enum Asked {
     Report,
     Json,
     Pages(u32),
@@ -116,20 +117,20 @@ enum Asked {
 
 /// A program as `/init`; how many steps are made, and ticks after them, and how often; how the run ended after all;
 /// what is asked for, what the text begins with, and parts of the JSON.
-struct Row {
-    name: &'static str,
-    init: &'static str,
-    steps: u32,
-    ticks: u32,
-    rounds: u32,
-    outcome: Outcome,
-    asked: Asked,
-    text: &'static str,
-    json: &'static [&'static str],
+pub(crate) struct Row {
+    pub(crate) name: &'static str,
+    pub(crate) init: &'static str,
+    pub(crate) steps: u32,
+    pub(crate) ticks: u32,
+    pub(crate) rounds: u32,
+    pub(crate) outcome: Outcome,
+    pub(crate) asked: Asked,
+    pub(crate) text: &'static str,
+    pub(crate) json: &'static [&'static str],
 }
 
 /// The events came to their end, and they were no play's.
-const RAN: Outcome = Outcome {
+pub(crate) const RAN: Outcome = Outcome {
     halt: None,
     play: None,
 };
@@ -648,10 +649,15 @@ fn holds(alloc: Global, row: &Row, shown: Shown) -> Option<bool> {
     holds
 }
 
+/// The row holds, whether the reporter is shown each step or calls, faults and turns alone.
+pub(crate) fn expect_report(rt: &(impl Abort + AllocGlobal), row: &Row) {
+    expect_row(rt, row.name, holds(rt.alloc(), row, Shown::Each));
+    expect_row(rt, row.name, holds(rt.alloc(), row, Shown::Calls));
+}
+
 #[test]
 fn reports_tell_why(rt: HostRuntime) {
     for row in &ROWS {
-        expect_row(&rt, row.name, holds(rt.alloc(), row, Shown::Each));
-        expect_row(&rt, row.name, holds(rt.alloc(), row, Shown::Calls));
+        expect_report(&rt, row);
     }
 }
