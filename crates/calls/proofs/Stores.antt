@@ -2,15 +2,15 @@
 use Rattle.calls.proofs.Common.{[], Acts, and_parts, Answers, answers, ap, argument, arith, blocks_of, Bool, bytes_of}
 use Rattle.calls.proofs.Common.{bytes_read, can_write, cond_some, counting, descriptors_at, Directory, Done, drop, Err}
 use Rattle.calls.proofs.Common.{false, File, file-opens, file_at, file_of, Files, FileTree, FitsNode, Fstat, fstat_row}
-use Rattle.calls.proofs.Common.{given, GoesOn, HasRead, Here, here-as, here-in, if◌then◌else◌, InodeStat, IsKernel}
-use Rattle.calls.proofs.Common.{IsServed, IsWhole, Kernel, le, leb-true, length, length-drop, length-take, limited}
-use Rattle.calls.proofs.Common.{List, longest, low, me, memory_at, minus_one, nat_le, Node, node_bytes, node_of}
-use Rattle.calls.proofs.Common.{node_on, None, none-some, Ok, OnNode, opens-moved, Option, option_map, Outcome, Pending}
-use Rattle.calls.proofs.Common.{pending_arg, provided, put, put_process, read_on, refl, Refused, Refuses, room_for, row}
-use Rattle.calls.proofs.Common.{row_of, same_Some, slot, Some, stat_bytes, stat_told, State, state_of, subst, sym, take}
-use Rattle.calls.proofs.Common.{Target, target_of, Tells, Transfers, true, Uses, wanted, with_tree, write_bytes}
-use Rattle.calls.proofs.Common.{write_on, wrote, wrote-state, zeros, ℕ, ◌%◌, ◌&&◌, ◌+◌, ◌/◌, ◌<◌, ◌==◌, ◌^◌, ◌∙◌, ◌∷◌}
-use Rattle.calls.proofs.Common.{◌≡◌, ◌≤◌}
+use Rattle.calls.proofs.Common.{given, GoesOn, HasRead, Here, here-as, here-in, IfSome, if◌then◌else◌, InodeStat}
+use Rattle.calls.proofs.Common.{IsKernel, IsServed, IsWhole, Kernel, le, leb-true, length, length-drop, length-take}
+use Rattle.calls.proofs.Common.{limited, List, longest, low, me, memory_at, minus_one, nat_le, Node, node_bytes}
+use Rattle.calls.proofs.Common.{node_of, node_on, None, none-some, Ok, OnNode, opens-moved, Option, option_map, Outcome}
+use Rattle.calls.proofs.Common.{Pending, pending_arg, provided, put, put_process, read_on, refl, Refused, Refuses}
+use Rattle.calls.proofs.Common.{room_for, row, row_of, same_Some, slot, Some, stat_bytes, stat_told, State, state_of}
+use Rattle.calls.proofs.Common.{subst, sym, take, Target, target_of, Tells, Transfers, true, Uses, wanted, with_tree}
+use Rattle.calls.proofs.Common.{write_bytes, write_on, wrote, wrote-state, zeros, ℕ, ◌%◌, ◌&&◌, ◌+◌, ◌/◌, ◌<◌, ◌==◌}
+use Rattle.calls.proofs.Common.{◌^◌, ◌∙◌, ◌∷◌, ◌≡◌, ◌≤◌}
 use Rattle.unixmodel.specs.FileCalls.{node_number, read_file, read_node, with_file, with_offset, write_node}
 use Rattle.kernel.specs.Opening.{advanced, HasFetched, HasStored, MayMove}
 use Rattle.tree.proofs.Storing.{whole-node}
@@ -19,12 +19,14 @@ use Rattle.files.specs.declared.file.OpenFile.{OpenFile}
 use Rattle.files.specs.Places.{opens_of, moved, node_at, node_from}
 use Rattle.file_transfers.proofs.Fits.{greatest-low}
 use Rattle.kernel.proofs.Joined.{IsNamed}
+use Rattle.kernel.proofs.Steps.{counting-kernel}
 use Rattle.tree.specs.Stored.{FitsPlaces}
 use Rattle.tree.specs.Written.{count_of, files_after, fitting, IsFile, with_bytes, Written, written}
 use Rattle.unixmodel.specs.Image.{KeepsSize}
 use Rattle.calls.proofs.Acts.{goes-serves, going, going-here, refused, refuses-on, can-here, descriptor-is, does}
-use Rattle.calls.proofs.Transfers.{file, file-fits, file-named, given_bytes, going-is, length-given, named-file}
-use Rattle.calls.proofs.Transfers.{read-given, here, fits-at}
+use Rattle.calls.proofs.Transfers.{file, file-fits, file-named, given_bytes, going-is, length-given}
+use Rattle.calls.proofs.Transfers.{read-given, here, fits-at, named-number}
+use Rattle.calls.specs.declared.transfer_calls.Transfer.{Transfer}
 use Rattle.files.specs.declared.file.End.TheVariants as end
 use Rattle.files.specs.declared.file.Target.TheVariants as target
 use Rattle.unixmodel.specs.OpenFiles as unix_files
@@ -101,91 +103,94 @@ reads-file : (s : State) (i : ℕ) (p : unix.Process) (w : Pending) (f : unix_fi
 unfolding read_on
 reads-file s i p w f is n at on node here = rw (is.named, is.opened, on, here) refl
 
-module _ {k : Kernel} {i : ℕ} {w : Pending} {number offset : ℕ} (u : Uses k i end.Read (target.File number offset) w)
-  where
-    abbrev g : Transfers k i end.Read (target.File number offset) w
-    g = u.goes
+module _ {k : Kernel} {i : ℕ} {x : Transfer} {number offset : ℕ} (u : Uses k i end.Read x)
+    (on : x.target ≡ target.File number offset) where
+  abbrev g : Transfers k i end.Read (target.File number offset) x.pending
+  g = subst (λ (t : Target). Transfers k i end.Read t x.pending) on u.goes
 
-    abbrev count : ℕ
-    count = wanted w
+  read-number : x.id ≡ (file g).number
+  read-number = named-number g u.named
 
-    abbrev address : ℕ
-    address = pending_arg w 1
+  abbrev count : ℕ
+  count = wanted x.pending
 
-    pub content : HasBytes (slot k.tree.files number) offset
-    content = has-bytes (file g).file number offset (slot k.tree.files number) (file-fits g)
+  abbrev address : ℕ
+  address = pending_arg x.pending 1
 
-    -- the bytes that are read
-    abbrev piece : List ℕ
-    piece = bytes_read k.tree.files number offset count
+  pub content : HasBytes (slot k.tree.files number) offset
+  content = has-bytes (file g).file number offset (slot k.tree.files number) (file-fits g)
 
-    abbrev bytes : List ℕ
-    bytes = take count (drop offset (node_bytes content.node))
+  -- the bytes that are read
+  abbrev piece : List ℕ
+  piece = bytes_read k.tree.files number offset count
 
-    piece-is : piece ≡ bytes
-    piece-is = ap (λ (o : Option Node). take count (drop offset (bytes_of o))) content.here
+  abbrev bytes : List ℕ
+  bytes = take count (drop offset (node_bytes content.node))
 
-    -- m is what the read left, and new what goes on after it
-    module _ (whole : IsWhole k.tree) {m : Kernel} {n c : ℕ} (wide : c ≡ count)
-        (fetched : HasFetched k m i number offset address c n) where
-      told : HasFetched k m i number offset address count n
-      told = rw wide at fetched
+  piece-is : piece ≡ bytes
+  piece-is = ap (λ (o : Option Node). take count (drop offset (bytes_of o))) content.here
 
-      reads-within : offset + n ≤ longest
-      reads-within =
-          let c = content in
-          let same : length piece ≡ length bytes = ap length piece-is in
-          let size = whole-node c.node (subst FitsPlaces c.here (whole.places number)) in
-          let used = (here g).sound.used (here g).up in
-          let short = subst KeepsSize c.here (used.rules.sizes number) in
-          omega (
-            arith,
-            same,
-            size,
-            short,
-            c.near,
-            length-take count (drop offset (node_bytes c.node)),
-            length-drop offset (node_bytes c.node),
-            told.counted,
-          )
+  -- m is what the read left, and new what goes on after it
+  module _ (whole : IsWhole k.tree) {m : Kernel} {n c : ℕ} (wide : c ≡ count)
+      (fetched : HasFetched k m i number offset address c n) where
+    told : HasFetched k m i number offset address count n
+    told = rw wide at fetched
 
-      pub reads-near : offset + low n < 2 ^ 32
-      reads-near = moves-near g n reads-within
+    reads-within : offset + n ≤ longest
+    reads-within =
+        let c = content in
+        let same : length piece ≡ length bytes = ap length piece-is in
+        let size = whole-node c.node (subst FitsPlaces c.here (whole.places number)) in
+        let used = (here g).sound.used (here g).up in
+        let short = subst KeepsSize c.here (used.rules.sizes number) in
+        omega (
+          arith,
+          same,
+          size,
+          short,
+          c.near,
+          length-take count (drop offset (node_bytes c.node)),
+          length-drop offset (node_bytes c.node),
+          told.counted,
+        )
 
-      pub reads-may : {id l : ℕ} → id ≡ (file g).number → l ≡ low n → MayMove m id (offset + l)
-      reads-may = moves-may g n reads-within (ap (λ (y : Kernel). y.files) told.same)
+    pub reads-near : offset + low n < 2 ^ 32
+    reads-near = moves-near g n reads-within
 
-      -- the state with that
-      abbrev left : ℕ → ℕ → List ℕ → State
-      left o at bs = record (put_process (state_of k) i
-          (record (me (here g)) { memory = write_bytes (here g).held.memory at bs })) {
-            opens = put (opens_of k.files) (file g).number
-                (record (file_of (file g).file) { target = OnNode number (offset + o) });
-          }
+    pub reads-may : {l : ℕ} → l ≡ low n → MayMove m x.id (offset + l)
+    reads-may = moves-may g n reads-within (ap (λ (y : Kernel). y.files) told.same) read-number
 
-      left-is : state_of (advanced (counting (wrote k i address piece) m.tree.failures) (file g).number (offset + n))
-          ≡ left n address piece
-      left-is =
-          ap (λ (s : State). record s { opens = opens_of (moved k.files (file g).number (offset + n)) })
-          (wrote-state (here g).run (here g).sound address piece)
-          ∙ ap (λ (os : List (Option unix_files.OpenFile)). record (left n address piece) { opens = os })
-          (moved-opens g n reads-within)
+    -- the state with that
+    abbrev left : ℕ → ℕ → List ℕ → State
+    left o at bs = record (put_process (state_of k) i
+        (record (me (here g)) { memory = write_bytes (here g).held.memory at bs })) {
+          opens = put (opens_of k.files) (file g).number
+              (record (file_of (file g).file) { target = OnNode number (offset + o) });
+        }
 
-      pub reads-done : {new : Kernel} {id l : ℕ} → id ≡ (file g).number → l ≡ low n → new ≡ advanced m id (offset + l)
-          → IsKernel new → IsServed k.tree m.tree → GoesOn k new i w (Answers n)
-      reads-done named cut is sound served =
-          let c = content in
-          let start = u.start in
-          let from : address + w.done ≡ address = omega (arith, start) in
-          moves-done g n reads-within told.same refl named cut is sound served n (
-          going-is g
-          ∙ reads-file (state_of k) i (me (here g)) w (file_of (file g).file) (file-named g) number offset
-          (ap target_of (file g).on) c.node c.here
-          ∙ c.reads (state_of k) i (me (here g)) w (file g).number (file_of (file g).file) number offset
-          ∙ ap (λ (at : ℕ). Done (left (length bytes) at bytes) (length bytes) []) from
-          ∙ ap (λ (bs : List ℕ). Done (left (length bs) address bs) (length bs) []) (sym piece-is)
-          ∙ ap (λ (o : ℕ). Done (left o address piece) o []) (sym told.counted)
-          ∙ ap (λ (s : State). Done s n []) (sym left-is))
+    left-is : state_of (advanced (counting (wrote k i address piece) m.tree.failures) (file g).number (offset + n))
+        ≡ left n address piece
+    left-is =
+        ap (λ (s : State). record s { opens = opens_of (moved k.files (file g).number (offset + n)) })
+        (wrote-state (here g).run (here g).sound address piece)
+        ∙ ap (λ (os : List (Option unix_files.OpenFile)). record (left n address piece) { opens = os })
+        (moved-opens g n reads-within)
+
+    pub reads-done : {new : Kernel} {l : ℕ} → l ≡ low n → new ≡ advanced m x.id (offset + l) → IsKernel new
+        → IsServed k.tree m.tree → GoesOn k new i x.pending (Answers n)
+    reads-done cut is sound served =
+        let c = content in
+        let start = u.start in
+        let from : address + x.pending.done ≡ address = omega (arith, start) in
+        moves-done g n reads-within told.same refl read-number cut is sound served n (
+        going-is g
+        ∙ reads-file (state_of k) i (me (here g)) x.pending (file_of (file g).file) (file-named g) number offset
+        (ap target_of (file g).on) c.node c.here
+        ∙ c.reads (state_of k) i (me (here g)) x.pending (file g).number (file_of (file g).file) number offset
+        ∙ ap (λ (at : ℕ). Done (left (length bytes) at bytes) (length bytes) []) from
+        ∙ ap (λ (bs : List ℕ). Done (left (length bs) address bs) (length bs) []) (sym piece-is)
+        ∙ ap (λ (o : ℕ). Done (left o address piece) o []) (sym told.counted)
+        ∙ ap (λ (s : State). Done s n []) (sym left-is))
 
 -- ---- a write: the row
 
@@ -253,90 +258,96 @@ open-file f n offset files _ here writable fits = absurd fits
 
 -- ---- the write
 
-module _ {k : Kernel} {i : ℕ} {w : Pending} {number offset : ℕ} (u : Uses k i end.Write (target.File number offset) w)
-  where
-    abbrev to : Transfers k i end.Write (target.File number offset) w
-    to = u.goes
+module _ {k : Kernel} {i : ℕ} {x : Transfer} {number offset : ℕ} (u : Uses k i end.Write x)
+    (on : x.target ≡ target.File number offset) where
+  abbrev to : Transfers k i end.Write (target.File number offset) x.pending
+  to = subst (λ (t : Target). Transfers k i end.Write t x.pending) on u.goes
 
-    pub is-file : IsFile k.tree.files number
-    is-file = open-file (file to).file number offset k.tree.files (slot k.tree.files number) refl
-        (named-file to (λ f. f.writable ≡ true) u.mode) (file-fits to)
+  write-number : x.id ≡ (file to).number
+  write-number = named-number to u.named
 
-    abbrev went : Option Written
-    went = written k.tree.block_limit k.tree.files number offset (given_bytes to)
+  pub is-file : IsFile k.tree.files number
+  is-file = open-file (file to).file number offset k.tree.files (slot k.tree.files number) refl
+      (subst (λ o. IfSome o (λ f. f.writable ≡ true)) (ap (file_at k.files) write-number ∙ (file to).opened) u.mode)
+      (file-fits to)
 
-    stores-row : going (here to) w
-        ≡ write_node (state_of k) (file to).number (file_of (file to).file) number offset is-file.links is-file.bytes
-        (given_bytes to)
-    unfolding write_on
-    stores-row = let f = file-named to in going-is to
-        ∙ rw (f.named, f.opened, read-given to, (file to).on, is-file.here) refl
+  abbrev went : Option Written
+  went = written k.tree.block_limit k.tree.files number offset (given_bytes to)
 
-    -- m is what the write left
-    module _ {m : Kernel} {c : ℕ} {r : Option ℕ} (wide : c ≡ wanted w)
-        (stores : HasStored k m i number offset (pending_arg w 1) c r) where
-      stored : HasStored k m i number offset (pending_arg w 1) (wanted w) r
-      stored = rw wide at stores
+  stores-row : going (here to) x.pending
+      ≡ write_node (state_of k) (file to).number (file_of (file to).file) number offset is-file.links is-file.bytes
+      (given_bytes to)
+  unfolding write_on
+  stores-row = let f = file-named to in going-is to
+      ∙ rw (f.named, f.opened, read-given to, (file to).on, is-file.here) refl
 
-      -- nothing is written
-      pub writes-refused : r ≡ None → IsKernel m → IsServed k.tree m.tree → GoesOn k m i w Refuses
-      writes-refused none sound served =
-          let gone = none-count went (sym none ∙ stored.counted) in
-          let state : state_of m ≡ state_of k = ap state_of stored.same
-          ∙ ap (λ (v : Option Written). record (state_of k) { files = files_after k.tree.files v }) gone in
-          let refused = going-here (here to) w ∙ stores-row
-          ∙ is-refused (state_of k) (file to).number (file_of (file to).file) number offset is-file.links
-          is-file.bytes (given_bytes to) is-file.here gone in
-          record {
-            comes = refuses-on refused state
-                (ap (λ (y : Kernel). y.spaces.active) stored.same ∙ (here to).run.active) sound served;
-            within =
-                rw refused refl;
-          }
+  -- m is what the write left
+  module _ {m : Kernel} {c : ℕ} {r : Option ℕ} (wide : c ≡ wanted x.pending)
+      (stores : HasStored k m i number offset (pending_arg x.pending 1) c r) where
+    stored : HasStored k m i number offset (pending_arg x.pending 1) (wanted x.pending) r
+    stored = rw wide at stores
 
-      module _ {n : ℕ} (some : r ≡ Some n) where
-        written-so : (v : Written) × (went ≡ Some v) × (v.count ≡ n)
-        written-so = some-count went n (sym some ∙ stored.counted)
+    -- nothing is written
+    pub writes-refused : r ≡ None → IsServed k.tree m.tree → GoesOn k m i x.pending Refuses
+    writes-refused none served =
+        let gone = none-count went (sym none ∙ stored.counted) in
+        let failures = m.tree.failures in
+        let same : m ≡ counting k failures = stored.same ∙ ap (λ (v : Option Written). with_tree k
+        (record k.tree { files = files_after k.tree.files v; failures = failures })) gone in
+        let refused = going-here (here to) x.pending ∙ stores-row
+        ∙ is-refused (state_of k) (file to).number (file_of (file to).file) number offset is-file.links
+        is-file.bytes (given_bytes to) is-file.here gone in
+        record {
+          comes = refuses-on refused (ap state_of same)
+              (ap (λ (y : Kernel). y.spaces.active) same ∙ (here to).run.active)
+              (subst IsKernel (sym same) (counting-kernel k failures (here to).sound)) served;
+          within =
+              rw refused refl;
+        }
 
-        store-is : IsStored (state_of k) (file to).number (file_of (file to).file) number offset is-file.links
-            is-file.bytes (given_bytes to) written-so.0
-        store-is = is-stored (state_of k) (file to).number (file_of (file to).file) number offset is-file.links
-            is-file.bytes (given_bytes to) is-file.here written-so.0 written-so.1
+    module _ {n : ℕ} (some : r ≡ Some n) where
+      written-so : (v : Written) × (went ≡ Some v) × (v.count ≡ n)
+      written-so = some-count went n (sym some ∙ stored.counted)
 
-        writes-within : offset + n ≤ longest
-        writes-within = omega (arith, store-is.low, store-is.few, written-so.2)
+      store-is : IsStored (state_of k) (file to).number (file_of (file to).file) number offset is-file.links
+          is-file.bytes (given_bytes to) written-so.0
+      store-is = is-stored (state_of k) (file to).number (file_of (file to).file) number offset is-file.links
+          is-file.bytes (given_bytes to) is-file.here written-so.0 written-so.1
 
-        pub writes-near : offset + low n < 2 ^ 32
-        writes-near = moves-near to n writes-within
+      writes-within : offset + n ≤ longest
+      writes-within = omega (arith, store-is.low, store-is.few, written-so.2)
 
-        pub writes-may : {id l : ℕ} → id ≡ (file to).number → l ≡ low n → MayMove m id (offset + l)
-        writes-may = moves-may to n writes-within (ap (λ (y : Kernel). y.files) stored.same)
+      pub writes-near : offset + low n < 2 ^ 32
+      writes-near = moves-near to n writes-within
 
-        abbrev z : Kernel
-        z = with_tree k (record k.tree { files = files_after k.tree.files went; failures = m.tree.failures })
+      pub writes-may : {l : ℕ} → l ≡ low n → MayMove m x.id (offset + l)
+      writes-may = moves-may to n writes-within (ap (λ (y : Kernel). y.files) stored.same) write-number
 
-        abbrev kept : ℕ → State
-        kept o = record (with_offset (state_of k) (file to).number (file_of (file to).file) number (offset + o))
-            { files = written-so.0.files }
+      abbrev z : Kernel
+      z = with_tree k (record k.tree { files = files_after k.tree.files went; failures = m.tree.failures })
 
-        kept-is : state_of (advanced z (file to).number (offset + n)) ≡ kept n
-        kept-is =
-            ap (λ (o : Option Written). record (state_of k)
-            { files = files_after k.tree.files o; opens = opens_of (moved k.files (file to).number (offset + n)) })
-            written-so.1
-            ∙ ap (λ (os : List (Option unix_files.OpenFile)). record (kept n) { opens = os })
-            (moved-opens to n writes-within)
+      abbrev kept : ℕ → State
+      kept o = record (with_offset (state_of k) (file to).number (file_of (file to).file) number (offset + o))
+          { files = written-so.0.files }
 
-        pub writes-done : {last : Kernel} {id l : ℕ} → id ≡ (file to).number → l ≡ low n
-            → last ≡ advanced m id (offset + l) → IsKernel last → IsServed k.tree m.tree → {answer : ℕ}
-            → answer ≡ (if n == c then n else minus_one) → GoesOn k last i w (Answers answer)
-        writes-done named cut is sound served {answer} answers =
-            moves-done to n writes-within stored.same refl named cut is sound served answer (
-            stores-row ∙ store-is.row
-            ∙ ap (λ (o : ℕ). Done (kept o) (if o == length (given_bytes to) then o else minus_one) []) written-so.2
-            ∙ ap (λ (s : State). Done s (if n == length (given_bytes to) then n else minus_one) []) (sym kept-is)
-            ∙ ap (λ (o : ℕ). Done (state_of (advanced z (file to).number (offset + n))) o [])
-            (ap (λ (l : ℕ). if n == l then n else minus_one) (length-given to ∙ sym wide) ∙ sym answers))
+      kept-is : state_of (advanced z (file to).number (offset + n)) ≡ kept n
+      kept-is =
+          ap (λ (o : Option Written). record (state_of k)
+          { files = files_after k.tree.files o; opens = opens_of (moved k.files (file to).number (offset + n)) })
+          written-so.1
+          ∙ ap (λ (os : List (Option unix_files.OpenFile)). record (kept n) { opens = os })
+          (moved-opens to n writes-within)
+
+      pub writes-done : {last : Kernel} {l : ℕ} → l ≡ low n → last ≡ advanced m x.id (offset + l) → IsKernel last
+          → IsServed k.tree m.tree → {answer : ℕ} → answer ≡ (if n == c then n else minus_one)
+          → GoesOn k last i x.pending (Answers answer)
+      writes-done cut is sound served {answer} answers =
+          moves-done to n writes-within stored.same refl write-number cut is sound served answer (
+          stores-row ∙ store-is.row
+          ∙ ap (λ (o : ℕ). Done (kept o) (if o == length (given_bytes to) then o else minus_one) []) written-so.2
+          ∙ ap (λ (s : State). Done s (if n == length (given_bytes to) then n else minus_one) []) (sym kept-is)
+          ∙ ap (λ (o : ℕ). Done (state_of (advanced z (file to).number (offset + n))) o [])
+          (ap (λ (l : ℕ). if n == l then n else minus_one) (length-given to ∙ sym wide) ∙ sym answers))
 
 -- ---- fstat: the attributes of a node
 

@@ -14,6 +14,7 @@ use Rattle.calls.proofs.Common.{subst, suc, sym, take, Target, target_of, Transf
 use Rattle.calls.proofs.Common.{ℤ, ◌&&◌, ◌<◌, ◌^◌, ◌∙◌, ◌≡◌, ◌≢◌}
 use Rattle.unixmodel.specs.FileCalls.{is_usable, is_usable_node, unless_empty}
 use Rattle.calls.specs.Transfers.{Begins, call_on, can_transfer, MayUse, target_for, target_named}
+use Rattle.calls.specs.declared.transfer_calls.Transfer.{Transfer}
 use Rattle.std.specs.Int.{w32}
 use Rattle.kernel.proofs.Joined.{IsNamed, file-at, IsFileAt, open-named}
 use Rattle.files.specs.declared.file.End.{End}
@@ -195,9 +196,7 @@ start-fresh opens ds w start = λ read. fresh-go (file_named opens ds (low (pend
 
 -- ---- the call of the running process
 
--- r is what its descriptor is open on, if such a call may be made on it
-module _ {k : Kernel} {i : ℕ} (x : Here k i) (e : End) {r : Option Target}
-    (found : r ≡ target_for e (file_named k.files (descriptors_at k i) (low (argument k 0)))) where
+module _ {k : Kernel} {i : ℕ} (x : Here k i) (e : End) where
   abbrev named : Option OpenFile
   named = file_named k.files (descriptors_at k i) (low (argument k 0))
 
@@ -207,8 +206,8 @@ module _ {k : Kernel} {i : ℕ} (x : Here k i) (e : End) {r : Option Target}
   abbrev w : Pending
   w = pending_for k (call_on e)
 
-  row-here : row_of x (call_on e) ≡ given r (λ t. rest)
-  row-here =
+  row-here : {r : Option Target} → r ≡ target_for e named → row_of x (call_on e) ≡ given r (λ t. rest)
+  row-here found =
       row-files e k i (me x)
       ∙ ap (λ (o : Option Process). filed e (state_of k) (file_named k.files (descriptors_in o) (low (argument k 0)))
       rest) (sym x.run.process)
@@ -219,18 +218,20 @@ module _ {k : Kernel} {i : ℕ} (x : Here k i) (e : End) {r : Option Target}
   refuses : row_of x (call_on e) ≡ Refused → Acts k k i (Some (call_on e)) Refuses
   refuses is = refused x (Some (call_on e)) (ap limited is)
 
-  pub begins-unnamed : r ≡ None → Acts k k i (Some (call_on e)) Refuses
-  begins-unnamed none = refuses (row-here ∙ rw none refl)
+  pub begins-unnamed : None ≡ target_for e named → Acts k k i (Some (call_on e)) Refuses
+  begins-unnamed none = refuses (row-here none)
 
-  module _ {t : Target} (is : r ≡ Some t) {o : Option ℕ} (told : o ≡ natural (int_of (argument k 2))) where
+  -- what its descriptor names is open on t, and such a call may be made on it
+  module _ {t : Target} (found : Some t ≡ target_for e named) {o : Option ℕ}
+      (told : o ≡ natural (int_of (argument k 2))) where
     for-it : (f : OpenFile) × (named ≡ Some f) × IsFor e f t
-    for-it = for-of e named t (sym found ∙ is)
+    for-it = for-of e named t (sym found)
 
     on : target_named k i (low (argument k 0)) ≡ Some t
     on = ap (option_map (λ (f : OpenFile). f.target)) for-it.1 ∙ ap Some for-it.2.on
 
     row-counted : row_of x (call_on e) ≡ rest
-    row-counted = row-here ∙ rw is refl
+    row-counted = row-here found
 
     pub begins-below : o ≡ None → Acts k k i (Some (call_on e)) Refuses
     begins-below none = let below : natural (int_of (argument k 2)) ≡ None = sym told
@@ -255,21 +256,23 @@ module _ {k : Kernel} {i : ℕ} (x : Here k i) (e : End) {r : Option Target}
         pub begins-unusable : b ≡ false → Acts k k i (Some (call_on e)) Refuses
         begins-unusable failed = refuses (row-tested ∙ ap (λ (b : Bool). provided b (going x w)) failed)
 
-        pub begins-on-it : Runs k i → b ≡ true → {v : Pending} → v ≡ w → Begins k i e t v
-        begins-on-it runs passed made = rw made (record {
+        pub begins-on-it : Runs k i → b ≡ true → {id : ℕ} → slot (descriptors_at k i) (low (argument k 0)) ≡ Some id
+            → {v : Pending} → v ≡ w → Begins k i e (record { id = id; target = t; pending = v })
+        begins-on-it runs passed {id = id} number made = rw made (record {
           uses = record {
             goes = record {
               runs = runs;
               number = refl;
               can = pending-can e k (descriptors_at k i) (memory_at k i) n
-                  (ap is_some (file-at k.files (descriptors_at k i) (low (argument k 0)) t on).named) count
-                  (omega arith) (sym can ∙ passed);
+                  (ap is_some number) count (omega arith) (sym can ∙ passed);
               fresh = start-fresh k.files (descriptors_at k i) w refl;
               target = on;
             };
+            named = number;
             start = refl;
             usable = for-it.2.usable;
-            mode = mode-is e named for-it.0 for-it.1 for-it.2.may;
+            mode = mode-is e (file_at k.files id) for-it.0 (ap (option_and_then (file_at k.files)) (sym number)
+                ∙ for-it.1) for-it.2.may;
           };
           row = outcome-here x (Some (call_on e))
               ∙ ap limited (row-tested ∙ ap (λ (b : Bool). provided b (going x w)) passed ∙ sym (going-here x w));
@@ -278,8 +281,8 @@ module _ {k : Kernel} {i : ℕ} (x : Here k i) (e : End) {r : Option Target}
 -- ---- it goes on
 
 -- what goes on with the call does the call
-pub begun-acts : {k : Kernel} {i : ℕ} {e : End} {t : Target} {w : Pending} → Begins k i e t w
-    → (new : Kernel) (r : Result Came DeviceFault) → GoesOnDisk k new i w r → ActsOnDisk k new i (Some (call_on e)) r
+pub begun-acts : {k : Kernel} {i : ℕ} {e : End} {x : Transfer} → Begins k i e x → (new : Kernel)
+    (r : Result Came DeviceFault) → GoesOnDisk k new i x.pending r → ActsOnDisk k new i (Some (call_on e)) r
 begun-acts b new (Ok came) goes = rw (b.row ∙ goes.within) goes.comes
 begun-acts b new (Err fault) lost = lost
 
@@ -311,14 +314,8 @@ module _ {k : Kernel} {i : ℕ} {e : End} {t : Target} {w : Pending} (g : Transf
       (ap target_of file.on)
 
   -- the number of its open file
-  pub named-number : {d : ℕ} → d ≡ low (pending_arg w 0) → (o : Option ℕ) → o ≡ slot (descriptors_at k i) d → (n : ℕ)
-      → o ≡ Some n → n ≡ file.number
-  named-number place o told n some =
-      same_Some n file.number (sym some ∙ told ∙ ap (slot (descriptors_at k i)) place ∙ file.named)
-
-  pub named-some : {d : ℕ} → d ≡ low (pending_arg w 0) → {o : Option ℕ} → o ≡ slot (descriptors_at k i) d
-      → is_some o ≡ true
-  named-some place told = ap is_some (told ∙ ap (slot (descriptors_at k i)) place ∙ file.named)
+  pub named-number : {n : ℕ} → slot (descriptors_at k i) (low (pending_arg w 0)) ≡ Some n → n ≡ file.number
+  named-number {n = n} is = same_Some n file.number (sym is ∙ file.named)
 
   pub going-is : going here w ≡ goes_on (state_of k) i (me here) w (call_on e)
   going-is = ap (goes_on (state_of k) i (me here) w) g.number

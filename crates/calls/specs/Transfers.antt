@@ -4,6 +4,7 @@ use Rattle.std.specs.Prelude.{Bool, IfSome, List, Ok, Option, Some, is_some, len
 use Rattle.std.specs.Prelude.{◌≤◌}
 use Rattle.std.specs.Result.{result_ok}
 use Rattle.calls.specs.Acts.{Runs, going_at, outcome_at}
+use Rattle.calls.specs.declared.transfer_calls.Transfer.{Transfer}
 use Rattle.kernel.specs.Kernel.{Kernel, descriptors_at, state_of}
 use Rattle.kernel.specs.Sound.{IsFresh, IsPending, file_named}
 use Rattle.files.specs.declared.file.End.{End}
@@ -11,11 +12,12 @@ use Rattle.files.specs.declared.file.End.TheVariants as end
 use Rattle.files.specs.declared.file.OpenFile.{OpenFile}
 use Rattle.files.specs.declared.file.Target.{Target}
 use Rattle.files.specs.declared.file.Target.TheVariants as target
-use Rattle.files.specs.Places.{readable_at, usable, writable_at}
+use Rattle.files.specs.Places.{file_at, readable_at, usable, writable_at}
 use Rattle.spaces.specs.Spaces.{view_at}
 use Rattle.unixmodel.specs.declared.call.Call.{Call}
 use Rattle.unixmodel.specs.declared.call.Call.TheVariants.{Read, Write}
 use Rattle.unixmodel.specs.declared.process.Pending.{Pending}
+use Rattle.unixmodel.specs.Files.{slot}
 use Rattle.unixmodel.specs.Memory.{Memory, can_write, read_bytes}
 use Rattle.unixmodel.specs.Numbers.{low}
 use Rattle.unixmodel.specs.Outcome.{limited, pending_arg}
@@ -51,12 +53,13 @@ abbrev pub MayUse : End → Option OpenFile → Type 0
 MayUse end.Read o = IfSome o (λ f. f.readable ≡ true)
 MayUse end.Write o = IfSome o (λ f. f.writable ≡ true)
 
--- it begins to; of devices the console alone can be read and written
-pub record Uses (k : Kernel) (i : ℕ) (e : End) (t : Target) (w : Pending) : Type 0 where
-  pub goes : Transfers k i e t w
-  pub start : w.done ≡ 0
-  pub usable : usable t ≡ Ok t
-  pub mode : MayUse e (file_named k.files (descriptors_at k i) (low (pending_arg w 0)))
+-- it begins to, as x says; of devices the console alone can be read and written
+pub record Uses (k : Kernel) (i : ℕ) (e : End) (x : Transfer) : Type 0 where
+  pub goes : Transfers k i e x.target x.pending
+  pub named : slot (descriptors_at k i) (low (pending_arg x.pending 0)) ≡ Some x.id
+  pub start : x.pending.done ≡ 0
+  pub usable : usable x.target ≡ Ok x.target
+  pub mode : MayUse e (file_at k.files x.id)
 
 -- what is open there is the console, or some end of pipe q
 abbrev pub OnConsole : Kernel → ℕ → End → Pending → Type 0
@@ -66,9 +69,9 @@ abbrev pub OnThePipe : Kernel → ℕ → End → ℕ → Pending → Type 0
 OnThePipe k i end q w = (e : End) × Transfers k i end (target.Pipe q e) w
 
 -- its row is the outcome of the pending call, within the limits
-pub record Begins (k : Kernel) (i : ℕ) (end : End) (t : Target) (w : Pending) : Type 0 where
-  pub uses : Uses k i end t w
-  pub row : outcome_at (state_of k) i (Some (call_on end)) ≡ limited (going_at (state_of k) i w)
+pub record Begins (k : Kernel) (i : ℕ) (end : End) (x : Transfer) : Type 0 where
+  pub uses : Uses k i end x
+  pub row : outcome_at (state_of k) i (Some (call_on end)) ≡ limited (going_at (state_of k) i x.pending)
 
 -- ---- write
 

@@ -117,14 +117,12 @@ fn instruct<D: BlockDev, T: Translate, W: Out>(
     at: usize,
     console: &mut W,
 ) -> Result<(), Halt>
-    requires running { kernel.old.spaces.active ≡ Some at }
-    requires up { kernel.old.tree.failed ≡ false }
+    requires { Runs kernel.old at }
     ensures gives { DispatchesTo W.contents W.failures kernel.new console.old console.new (executed kernel.old at)
         result }
     ensures tree { LeavesTree kernel.old.tree kernel.new.tree result }
     ensures later { W.failures console.old ≤ W.failures console.new }
 {
-    kernel.is_sound();
     match kernel.execute(at) {
         None => Ok(()),
         Some(trap) => take_trap(kernel, at, trap, console),

@@ -1,9 +1,10 @@
 //! The calls read and write, and how they go on. They are told apart by the end of a pipe that each would use.
-ghost use Rattle.std.specs.Prelude.{◌<◌, ◌≡◌, ◌≤◌, IfErr, IfOk, OnErr, OnOk, Some, is_some, length, true};
-ghost use Rattle.std.specs.Prelude.{if◌then◌else◌, ◌==◌};
+ghost use Rattle.std.specs.Prelude.{◌<◌, ◌≡◌, ◌≤◌, IfErr, IfOk, IfSome, OnErr, OnOk, Some, is_some, length, true};
+ghost use Rattle.std.specs.Prelude.{if◌then◌else◌, option_map, ◌==◌};
 ghost use Rattle.std.specs.Io.KnownBytes.{Appends};
 ghost use Rattle.calls.specs.Acts.{Acts, ActsOnDisk, CanWait, GoesOn, GoesOnDisk, Runs, CallTries, PendingTries};
 ghost use Rattle.files.specs.declared.file.Target.TheVariants as target;
+ghost use Rattle.files.specs.Places.{file_at};
 ghost use Rattle.kernel.specs.Kernel.{descriptors_at};
 ghost use Rattle.kernel.specs.Sound.{file_named};
 ghost use Rattle.calls.specs.Transfers.{Begins, OnConsole, OnThePipe, Uses, IsFront, call_on, can_transfer, target_for};
@@ -15,6 +16,7 @@ ghost use Rattle.files.specs.Places.{has_end, opens_of};
 ghost use Rattle.spaces.specs.Spaces.{view_at};
 ghost use Rattle.unixmodel.specs.declared.call.Call.TheVariants as Call;
 ghost use Rattle.unixmodel.specs.Failures.{Rises};
+ghost use Rattle.unixmodel.specs.Files.{slot};
 ghost use Rattle.unixmodel.specs.Memory.{reach, read_bytes};
 ghost use Rattle.unixmodel.specs.Outcome.{minus_one};
 ghost use Rattle.unixmodel.specs.declared.trap.Access.TheVariants.{Load};
@@ -31,6 +33,15 @@ use kernel::numbers::{low, natural};
 use sv39::Translate;
 use unixmodel::call::Call;
 use unixmodel::process::Pending;
+
+// A read or a write that has begun: the number of the open file that its descriptor names, what that is open on, and
+// the call.
+#[derive(Clone, Copy)]
+struct Transfer {
+    id: usize,
+    target: Target,
+    pending: Pending,
+}
 
 // The call that uses an end.
 fn call_on(end: End) -> Call
@@ -66,22 +77,39 @@ fn has_end<D: BlockDev, T: Translate>(kernel: &Kernel<D, T>, pipe: usize, end: E
     kernel.has_end(pipe, end)
 }
 
-// What the open file that a descriptor names is open on, where it is open for reading or writing.
+// What an open file is open on, where it is open for reading or writing.
 fn target_for<D: BlockDev, T: Translate>(
+    kernel: &Kernel<D, T>,
+    end: End,
+    id: usize,
+) -> Option<Target>
+    ensures { result ≡ target_for end (file_at kernel.now.files id) }
+{
+    match end {
+        End::Read => kernel.source(id).ok(),
+        End::Write => kernel.sink(id).ok(),
+    }
+}
+
+// The number of the open file that a descriptor names, and what that is open on, where it is open for reading or
+// writing.
+fn find_open_file<D: BlockDev, T: Translate>(
     kernel: &Kernel<D, T>,
     end: End,
     at: usize,
     descriptor: u32,
-) -> Option<Target>
-    ensures { result ≡ target_for end (file_named kernel.now.files (descriptors_at kernel.now at) descriptor) }
+) -> Option<(usize, Target)>
+    ensures target { option_map (λ f. f.1) result
+        ≡ target_for end (file_named kernel.now.files (descriptors_at kernel.now at) descriptor) }
+    ensures number { IfSome result (λ f. slot (descriptors_at kernel.now at) descriptor ≡ Some f.0) }
 {
     let Some(id) = kernel.open_id(at, descriptor) else {
         return None;
     };
     let id = usize::from(id);
-    match end {
-        End::Read => kernel.source(id).ok(),
-        End::Write => kernel.sink(id).ok(),
+    match target_for(kernel, end, id) {
+        Some(target) => Some((id, target)),
+        None => None,
     }
 }
 
@@ -109,13 +137,13 @@ fn begin_transfer<D: BlockDev, T: Translate>(
     kernel: &Kernel<D, T>,
     at: usize,
     end: End,
-) -> Result<(Target, Pending), Came>
+) -> Result<Transfer, Came>
     requires { Runs kernel.now at }
     ensures answered { IfErr result (λ came. Acts kernel.now kernel.now at (Some (call_on end)) came) }
-    ensures begins { IfOk result (λ r. Begins kernel.now at end r.0 r.1) }
+    ensures begins { IfOk result (Begins kernel.now at end) }
 {
     let pending = pending(kernel, call_on(end));
-    let Some(target) = target_for(kernel, end, at, low(pending.args[0])) else {
+    let Some((id, target)) = find_open_file(kernel, end, at, low(pending.args[0])) else {
         return Err(Came::Refuses);
     };
     let Some(count) = natural(pending.args[2]) else {
@@ -127,7 +155,11 @@ fn begin_transfer<D: BlockDev, T: Translate>(
     if !can_transfer(kernel, end, at, pending.args[1], u64::from(count)) {
         return Err(Came::Refuses);
     }
-    Ok((target, pending))
+    Ok(Transfer {
+        id,
+        target,
+        pending,
+    })
 }
 
 // ---- read
@@ -142,7 +174,7 @@ pub(crate) fn read<D: BlockDev, T: Translate>(
     ensures { ActsOnDisk kernel.old kernel.new at (Some Call.Read) result }
 {
     match begin_transfer(kernel, at, End::Read) {
-        Ok((target, pending)) => read_from(kernel, at, target, pending),
+        Ok(transfer) => read_from(kernel, at, transfer),
         Err(came) => Ok(came),
     }
 }
@@ -169,16 +201,15 @@ pub(crate) fn read_on<D: BlockDev, T: Translate>(
 fn read_from<D: BlockDev, T: Translate>(
     kernel: &mut Kernel<D, T>,
     at: usize,
-    target: Target,
-    pending: Pending,
+    transfer: Transfer,
 ) -> Result<Came, DeviceFault>
-    requires { Uses kernel.old at End.Read target pending }
-    ensures { GoesOnDisk kernel.old kernel.new at pending result }
+    requires { Uses kernel.old at End.Read transfer }
+    ensures { GoesOnDisk kernel.old kernel.new at transfer.pending result }
 {
-    match target {
-        Target::File { number, offset } => read_file(kernel, at, number, offset, pending),
-        Target::Console { .. } => Ok(read_console(kernel, at, pending)),
-        Target::Pipe { pipe, .. } => Ok(read_pipe(kernel, at, pipe, pending)),
+    match transfer.target {
+        Target::File { number, offset } => read_file(kernel, at, number, offset, transfer),
+        Target::Console { .. } => Ok(read_console(kernel, at, transfer.pending)),
+        Target::Pipe { pipe, .. } => Ok(read_pipe(kernel, at, pipe, transfer.pending)),
         Target::Device { .. } => unreachable!(),
     }
 }
@@ -189,17 +220,18 @@ fn read_file<D: BlockDev, T: Translate>(
     at: usize,
     number: u32,
     offset: u32,
-    pending: Pending,
+    transfer: Transfer,
 ) -> Result<Came, DeviceFault>
-    requires { Uses kernel.old at End.Read (target.File number offset) pending }
-    ensures { GoesOnDisk kernel.old kernel.new at pending result }
+    requires uses { Uses kernel.old at End.Read transfer }
+    requires on { transfer.target ≡ target.File number offset }
+    ensures { GoesOnDisk kernel.old kernel.new at transfer.pending result }
 {
-    let id = kernel.open_id(at, low(pending.args[0])).unwrap();
+    let Transfer { id, pending, .. } = transfer;
     kernel.files_are_whole();
     let count = u64::from(low(pending.args[2]));
     match kernel.read_node(at, number as usize, offset, pending.args[1], count) {
         Ok(read) => {
-            kernel.set_offset(usize::from(id), offset + low(read));
+            kernel.set_offset(id, offset + low(read));
             kernel.is_sound();
             Ok(Came::Answers(read))
         }
@@ -322,7 +354,7 @@ pub(crate) fn write<D: BlockDev, T: Translate, W: Out>(
     ensures later { W.failures console.old ≤ W.failures console.new }
 {
     match begin_transfer(kernel, at, End::Write) {
-        Ok((target, pending)) => write_to(kernel, at, target, pending, console),
+        Ok(transfer) => write_to(kernel, at, transfer, console),
         Err(came) => Ok(came),
     }
 }
@@ -331,16 +363,17 @@ pub(crate) fn write<D: BlockDev, T: Translate, W: Out>(
 fn write_to<D: BlockDev, T: Translate, W: Out>(
     kernel: &mut Kernel<D, T>,
     at: usize,
-    target: Target,
-    pending: Pending,
+    transfer: Transfer,
     console: &mut W,
 ) -> Result<Came, Halt>
-    requires { Uses kernel.old at End.Write target pending }
-    ensures tries { PendingTries W.contents W.failures kernel.old kernel.new console.old console.new at pending result }
+    requires { Uses kernel.old at End.Write transfer }
+    ensures tries { PendingTries W.contents W.failures kernel.old kernel.new console.old console.new
+        at transfer.pending result }
     ensures later { W.failures console.old ≤ W.failures console.new }
 {
-    match target {
-        Target::File { number, offset } => Ok(write_file(kernel, at, number, offset, pending)?),
+    let pending = transfer.pending;
+    match transfer.target {
+        Target::File { number, offset } => Ok(write_file(kernel, at, number, offset, transfer)?),
         Target::Console { .. } => {
             let count = u64::from(low(pending.args[2]));
             match print(kernel, at, pending.args[1], count, console) {
@@ -367,20 +400,20 @@ fn write_file<D: BlockDev, T: Translate>(
     at: usize,
     number: u32,
     offset: u32,
-    pending: Pending,
+    transfer: Transfer,
 ) -> Result<Came, DeviceFault>
-    requires { Uses kernel.old at End.Write (target.File number offset) pending }
-    ensures { GoesOnDisk kernel.old kernel.new at pending result }
+    requires uses { Uses kernel.old at End.Write transfer }
+    requires on { transfer.target ≡ target.File number offset }
+    ensures { GoesOnDisk kernel.old kernel.new at transfer.pending result }
 {
-    let id = kernel.open_id(at, low(pending.args[0])).unwrap();
+    let Transfer { id, pending, .. } = transfer;
     let count = u64::from(low(pending.args[2]));
     match kernel.write_node(at, number as usize, offset, pending.args[1], count) {
         Ok(wrote) => {
             let Some(wrote) = wrote else {
-                kernel.is_sound();
                 return Ok(Came::Refuses);
             };
-            kernel.set_offset(usize::from(id), offset + low(wrote));
+            kernel.set_offset(id, offset + low(wrote));
             kernel.is_sound();
             Ok(Came::Answers(write_answer(wrote, count)))
         }

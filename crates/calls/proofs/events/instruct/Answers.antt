@@ -7,7 +7,7 @@ pub returns-in-None-clause-gives : goal.returns-in-None-clause-gives
 returns-in-None-clause-gives g c =
     let d = c.in-None.ensures.done in
     made-quiet c.execute.new.self _ (g.W.Out.contents c.args.console.now)
-    (step-computes (runner-of c.is_sound.ensures.sound c.requires.running) d.1
+    (step-computes (runner-of c.requires.sound c.requires.active) d.1
     ∙ ap (λ (k : Kernel). quiet (state_of k)) (sym d.2))
 
 pub returns-in-None-clause-tree : goal.returns-in-None-clause-tree
@@ -15,4 +15,4 @@ returns-in-None-clause-tree g c = same-served (ap (λ (k : Kernel). k.tree) c.in
 
 pub take_trap-requires : goal.take_trap-requires
 take_trap-requires g c = let t =
-    c.in-Some.ensures.trap in rw t.1 (record { running = c.requires.running; up = c.requires.up; traps = t.0 })
+    c.in-Some.ensures.trap in rw t.1 (record { running = c.requires.active; up = c.requires.up; traps = t.0 })

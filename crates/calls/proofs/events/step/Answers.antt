@@ -1,7 +1,12 @@
 use Rattle.calls.proofs.Common.{err_from_is_err_and, refl, rules, sym, ◌∙◌}
+use Rattle.calls.proofs.Acts.{runs-of}
 use Rattle.calls.proofs.Takes.{does-err, does-made, made-quiet, next-executes, next-turns}
 use Rattle.calls.proofs.events.step.Goals.{in-None+in_ok-take_turn-in-None, in-Some+in_ok-instruct-in-Some}
 use Rattle.calls.proofs.events.step.Goals as goal
+
+pub instruct-requires : goal.instruct-requires
+instruct-requires g c =
+    let s = c.is_sound.ensures in runs-of (sym c.in-Some.ensures) c.requires.up s.sound s.zero s.aligned
 
 pub returns-in_err-instruct-in-Some : goal.returns-in_err-instruct-in-Some
 returns-in_err-instruct-in-Some g c =
