@@ -2,7 +2,7 @@
 use Rattle.calls.proofs.Common.{[], Acts, and_parts, Answers, answers, ap, argument, arith, blocks_of, Bool, bytes_of}
 use Rattle.calls.proofs.Common.{bytes_read, can_write, cond_some, counting, descriptors_at, Directory, Done, drop, Err}
 use Rattle.calls.proofs.Common.{false, File, file-opens, file_at, file_of, Files, FileTree, FitsNode, Fstat, fstat_row}
-use Rattle.calls.proofs.Common.{given, GoesOn, HasRead, Here, here-as, here-in, IfSome, if◌then◌else◌, InodeStat}
+use Rattle.calls.proofs.Common.{given, GoesOn, HasRead, Here, here-as, here-in, if◌then◌else◌, InodeStat}
 use Rattle.calls.proofs.Common.{IsKernel, IsServed, IsWhole, Kernel, le, leb-true, length, length-drop, length-take}
 use Rattle.calls.proofs.Common.{limited, List, longest, low, me, memory_at, minus_one, nat_le, Node, node_bytes}
 use Rattle.calls.proofs.Common.{node_of, node_on, None, none-some, Ok, OnNode, opens-moved, Option, option_map, Outcome}
@@ -25,7 +25,8 @@ use Rattle.tree.specs.Written.{count_of, files_after, fitting, IsFile, with_byte
 use Rattle.unixmodel.specs.Image.{KeepsSize}
 use Rattle.calls.proofs.Acts.{goes-serves, going, going-here, refused, refuses-on, can-here, descriptor-is, does}
 use Rattle.calls.proofs.Transfers.{file, file-fits, file-named, given_bytes, going-is, length-given}
-use Rattle.calls.proofs.Transfers.{read-given, here, fits-at, named-number}
+use Rattle.calls.proofs.Transfers.{read-given, here, fits-at, is-for, named-number}
+use Rattle.calls.specs.Transfers.{target_for}
 use Rattle.calls.specs.declared.transfer_calls.Transfer.{Transfer}
 use Rattle.files.specs.declared.file.End.TheVariants as end
 use Rattle.files.specs.declared.file.Target.TheVariants as target
@@ -268,7 +269,8 @@ module _ {k : Kernel} {i : ℕ} {x : Transfer} {number offset : ℕ} (u : Uses k
 
   pub is-file : IsFile k.tree.files number
   is-file = open-file (file to).file number offset k.tree.files (slot k.tree.files number) refl
-      (subst (λ o. IfSome o (λ f. f.writable ≡ true)) (ap (file_at k.files) write-number ∙ (file to).opened) u.mode)
+      (is-for end.Write (file to).file x.target (subst (λ o. target_for end.Write o ≡ Some x.target)
+      (ap (file_at k.files) write-number ∙ (file to).opened) u.may)).may
       (file-fits to)
 
   abbrev went : Option Written

@@ -13,7 +13,7 @@ use Rattle.calls.proofs.Common.{same_Some, slot, Some, some-pipe, SpaceView, Sta
 use Rattle.calls.proofs.Common.{subst, suc, sym, take, Target, target_of, Transfers, true, wanted, write_row, zero, ℕ}
 use Rattle.calls.proofs.Common.{ℤ, ◌&&◌, ◌<◌, ◌^◌, ◌∙◌, ◌≡◌, ◌≢◌}
 use Rattle.unixmodel.specs.FileCalls.{is_usable, is_usable_node, unless_empty}
-use Rattle.calls.specs.Transfers.{Begins, call_on, can_transfer, MayUse, target_for, target_named}
+use Rattle.calls.specs.Transfers.{Begins, call_on, can_transfer, target_for, target_named}
 use Rattle.calls.specs.declared.transfer_calls.Transfer.{Transfer}
 use Rattle.std.specs.Int.{w32}
 use Rattle.kernel.proofs.Joined.{IsNamed, file-at, IsFileAt, open-named}
@@ -89,10 +89,9 @@ may Read f = f.readable
 may Write f = f.writable
 
 -- such a call may be made on it, and it is open on t
-record IsFor (e : End) (f : OpenFile) (t : Target) : Type 0 where
-  may : may e f ≡ true
-  on : f.target ≡ t
-  usable : usable t ≡ Ok t
+pub record IsFor (e : End) (f : OpenFile) (t : Target) : Type 0 where
+  pub may : may e f ≡ true
+  pub on : f.target ≡ t
 
 may-is : (e : End) (f : OpenFile) (b : Bool) → may e f ≡ b
     → target_for e (Some f) ≡ (if b then result_ok (usable f.target) else None)
@@ -101,24 +100,23 @@ may-is Read f false is = rw is refl
 may-is Write f true is = rw is refl
 may-is Write f false is = rw is refl
 
-usable-is : (x t : Target) → result_ok (usable x) ≡ Some t → (x ≡ t) × (usable t ≡ Ok t)
+usable-is : (x t : Target) → result_ok (usable x) ≡ Some t → x ≡ t
 usable-is (target.Device n) t is = absurd (none-some t is)
-usable-is x t is = let same = same_Some x t is in (same, subst (λ (y : Target). usable y ≡ Ok y) same refl)
+usable-is x t is = same_Some x t is
 
 may-go : (e : End) (f : OpenFile) (t : Target) (b : Bool) → may e f ≡ b → target_for e (Some f) ≡ Some t → IsFor e f t
-may-go e f t true flag is = let u =
-    usable-is f.target t (sym (may-is e f true flag) ∙ is) in record { may = flag; on = u.0; usable = u.1 }
+may-go e f t true flag is =
+    record { may = flag; on = usable-is f.target t (sym (may-is e f true flag) ∙ is) }
 may-go e f t false flag is = absurd (none-some t (sym (may-is e f false flag) ∙ is))
+
+pub is-for : (e : End) (f : OpenFile) (t : Target) → target_for e (Some f) ≡ Some t → IsFor e f t
+is-for e f t is = may-go e f t (may e f) refl is
 
 for-of : (e : End) (o : Option OpenFile) (t : Target) → target_for e o ≡ Some t
     → (f : OpenFile) × (o ≡ Some f) × IsFor e f t
 for-of Read None t is = absurd (none-some t is)
 for-of Write None t is = absurd (none-some t is)
-for-of e (Some f) t is = (f, refl, may-go e f t (may e f) refl is)
-
-mode-is : (e : End) (o : Option OpenFile) (f : OpenFile) → o ≡ Some f → may e f ≡ true → MayUse e o
-mode-is Read o f at flag = rw at flag
-mode-is Write o f at flag = rw at flag
+for-of e (Some f) t is = (f, refl, is-for e f t is)
 
 -- ---- the row
 
@@ -230,24 +228,21 @@ module _ {k : Kernel} {i : ℕ} (x : Here k i) (e : End) where
     on : target_named k i (low (argument k 0)) ≡ Some t
     on = ap (option_map (λ (f : OpenFile). f.target)) for-it.1 ∙ ap Some for-it.2.on
 
-    row-counted : row_of x (call_on e) ≡ rest
-    row-counted = row-here found
-
     pub begins-below : o ≡ None → Acts k k i (Some (call_on e)) Refuses
     begins-below none = let below : natural (int_of (argument k 2)) ≡ None = sym told
-        ∙ none in refuses (row-counted ∙ rw below refl)
+        ∙ none in refuses (row-here found ∙ rw below refl)
 
     module _ {n : ℕ} (some : o ≡ Some n) where
       count : natural (int_of (argument k 2)) ≡ Some n
       count = sym told ∙ some
 
       pub begins-nothing : n ≡ 0 → Acts k k i (Some (call_on e)) (Answers 0)
-      begins-nothing none = makes x (call_on e) 0 x.sound refl refl refl refl (row-counted ∙ rw (count, none) refl)
+      begins-nothing none = makes x (call_on e) 0 x.sound refl refl refl refl (row-here found ∙ rw (count, none) refl)
 
       module _ (more : n ≢ 0) {b : Bool} (can : b ≡ can_transfer e (memory_at k i) (argument k 1) n) where
         row-tested : row_of x (call_on e) ≡ provided b (going x w)
         row-tested =
-            row-counted
+            row-here found
             ∙ rw count (unless-some (state_of k) n
             (provided (can_transfer e x.held.memory (argument k 1) n) (going x w)) (omega arith))
             ∙ ap (λ (b : Bool). provided b (going x w))
@@ -269,10 +264,8 @@ module _ {k : Kernel} {i : ℕ} (x : Here k i) (e : End) where
               target = on;
             };
             named = number;
+            may = ap (λ (o : Option ℕ). target_for e (option_and_then (file_at k.files) o)) (sym number) ∙ sym found;
             start = refl;
-            usable = for-it.2.usable;
-            mode = mode-is e (file_at k.files id) for-it.0 (ap (option_and_then (file_at k.files)) (sym number)
-                ∙ for-it.1) for-it.2.may;
           };
           row = outcome-here x (Some (call_on e))
               ∙ ap limited (row-tested ∙ ap (λ (b : Bool). provided b (going x w)) passed ∙ sym (going-here x w));

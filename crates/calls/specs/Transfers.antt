@@ -1,6 +1,6 @@
 -- How read and write begin, and go on with what a descriptor names. They are told apart by the end of a pipe that
 -- each would use.
-use Rattle.std.specs.Prelude.{Bool, IfSome, List, Ok, Option, Some, is_some, length, option_map, take, true, ℕ, ◌≡◌}
+use Rattle.std.specs.Prelude.{Bool, List, Option, Some, is_some, length, option_map, take, ℕ, ◌≡◌}
 use Rattle.std.specs.Prelude.{◌≤◌}
 use Rattle.std.specs.Result.{result_ok}
 use Rattle.calls.specs.Acts.{Runs, going_at, outcome_at}
@@ -12,7 +12,7 @@ use Rattle.files.specs.declared.file.End.TheVariants as end
 use Rattle.files.specs.declared.file.OpenFile.{OpenFile}
 use Rattle.files.specs.declared.file.Target.{Target}
 use Rattle.files.specs.declared.file.Target.TheVariants as target
-use Rattle.files.specs.Places.{file_at, readable_at, usable, writable_at}
+use Rattle.files.specs.Places.{file_at, readable_at, writable_at}
 use Rattle.spaces.specs.Spaces.{view_at}
 use Rattle.unixmodel.specs.declared.call.Call.{Call}
 use Rattle.unixmodel.specs.declared.call.Call.TheVariants.{Read, Write}
@@ -48,18 +48,12 @@ pub record Transfers (k : Kernel) (i : ℕ) (end : End) (t : Target) (w : Pendin
   pub fresh : IsFresh k.files (descriptors_at k i) w
   pub target : target_named k i (low (pending_arg w 0)) ≡ Some t
 
--- it may be read, or written
-abbrev pub MayUse : End → Option OpenFile → Type 0
-MayUse end.Read o = IfSome o (λ f. f.readable ≡ true)
-MayUse end.Write o = IfSome o (λ f. f.writable ≡ true)
-
--- it begins to, as x says; of devices the console alone can be read and written
+-- it begins to, of open file x.id, which its descriptor names
 pub record Uses (k : Kernel) (i : ℕ) (e : End) (x : Transfer) : Type 0 where
   pub goes : Transfers k i e x.target x.pending
   pub named : slot (descriptors_at k i) (low (pending_arg x.pending 0)) ≡ Some x.id
+  pub may : target_for e (file_at k.files x.id) ≡ Some x.target
   pub start : x.pending.done ≡ 0
-  pub usable : usable x.target ≡ Ok x.target
-  pub mode : MayUse e (file_at k.files x.id)
 
 -- what is open there is the console, or some end of pipe q
 abbrev pub OnConsole : Kernel → ℕ → End → Pending → Type 0

@@ -409,14 +409,12 @@ fn write_file<D: BlockDev, T: Translate>(
     let Transfer { id, pending, .. } = transfer;
     let count = u64::from(low(pending.args[2]));
     match kernel.write_node(at, number as usize, offset, pending.args[1], count) {
-        Ok(wrote) => {
-            let Some(wrote) = wrote else {
-                return Ok(Came::Refuses);
-            };
+        Ok(Some(wrote)) => {
             kernel.set_offset(id, offset + low(wrote));
             kernel.is_sound();
             Ok(Came::Answers(write_answer(wrote, count)))
         }
+        Ok(None) => Ok(Came::Refuses),
         Err(fault) => Err(fault),
     }
 }

@@ -5,25 +5,25 @@ use Rattle.calls.proofs.transfer_calls.write_file.Goals as goal
 pub write_node-requires-clause-file : goal.write_node-requires-clause-file
 write_node-requires-clause-file g c = is-file c.requires.uses c.requires.on
 
-pub returns-in_default : goal.returns-in_default
-returns-in_default g c =
-    writes-refused c.requires.uses c.requires.on (c.from-count.ensures ∙ c.low.ensures) c.in-Ok.ensures.told
-    c.in_default.is (serves-disk c.in-Ok.ensures)
+pub returns-in-Ok-None : goal.returns-in-Ok-None
+returns-in-Ok-None g c =
+    writes-refused c.requires.uses c.requires.on (c.from-count.ensures ∙ c.low.ensures) c.in-Ok-None.ensures.told
+    c.in-Ok-None.field-0-is (serves-disk c.in-Ok-None.ensures)
 
 pub overflow_add-offset : goal.overflow_add-offset
 overflow_add-offset g c =
     let near = writes-near c.requires.uses c.requires.on (c.from-count.ensures ∙ c.low.ensures)
-    c.in-Ok.ensures.told c.in-Some.is in
-    let low = c.low-in-Ok.ensures in
+    c.in-Ok-Some.ensures.told c.in-Ok-Some.field-0-is in
+    let low = c.low-in-Ok-Some.ensures in
     omega (arith, near, low)
 
 pub set_offset-requires : goal.set_offset-requires
 set_offset-requires g c =
-    writes-may c.requires.uses c.requires.on (c.from-count.ensures ∙ c.low.ensures) c.in-Ok.ensures.told
-    c.in-Some.is c.low-in-Ok.ensures
+    writes-may c.requires.uses c.requires.on (c.from-count.ensures ∙ c.low.ensures) c.in-Ok-Some.ensures.told
+    c.in-Ok-Some.field-0-is c.low-in-Ok-Some.ensures
 
-pub returns-in-Some : goal.returns-in-Some
-returns-in-Some g c =
-    writes-done c.requires.uses c.requires.on (c.from-count.ensures ∙ c.low.ensures) c.in-Ok.ensures.told
-    c.in-Some.is c.low-in-Ok.ensures c.set_offset.ensures c.is_sound.ensures.sound
-    (serves-disk c.in-Ok.ensures) c.write_answer.ensures
+pub returns-in-Ok-Some : goal.returns-in-Ok-Some
+returns-in-Ok-Some g c =
+    writes-done c.requires.uses c.requires.on (c.from-count.ensures ∙ c.low.ensures) c.in-Ok-Some.ensures.told
+    c.in-Ok-Some.field-0-is c.low-in-Ok-Some.ensures c.set_offset.ensures c.is_sound.ensures.sound
+    (serves-disk c.in-Ok-Some.ensures) c.write_answer.ensures
