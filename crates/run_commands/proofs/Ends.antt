@@ -7,14 +7,15 @@ use Rattle.host.specs.declared.report.End.TheVariants.{Halted, Running}
 use Rattle.machine.specs.View.{IsUp, View}
 use Rattle.unixmodel.specs.declared.event.Event.{Event}
 use Rattle.std.proofs.Common.{[], ap, append-nil, Bool, drop, Err, false, inr, List, None, Ok, Option, refl, Result}
-use Rattle.std.proofs.Common.{Some, subst, sym, take, true, ℕ, ℤ, ◌∙◌, ◌≡◌}
+use Rattle.std.proofs.Common.{Some, arith, inl, min, subst, sym, take, true, ℕ, ℤ, ◌+◌, ◌-◌, ◌<◌, ◌∙◌, ◌≡◌, ◌≢◌}
+use Rattle.std.proofs.Common.{◌^◌, ◌≤◌}
 use Rattle.std.proofs.KnownBytes.{Appends-kept}
 use Rattle.std.proofs.lemmas.List.{take-append-drop}
 use Rattle.calls.specs.declared.halt.Halt.TheVariants as halt
 use Rattle.driver.specs.Tails.{written_of}
 use Rattle.driver.proofs.Tails.{written-appends}
 use Rattle.machine.proofs.RunLemmas.{begins_both}
-use Rattle.run_commands.specs.Runs.{IsPlayed, Leaves, PlaysOut, Saves}
+use Rattle.run_commands.specs.Runs.{HasDevice, IsPlayed, Leaves, PlaysOut, Saves}
 use Rattle.console.specs.Output.{AppendsBeginning}
 use Rattle.machine.specs.Gives.{ConsoleFailsIn, DeviceFailsIn, IsDone, RunGives}
 use Rattle.machine.specs.Saved.{SaveGives}
@@ -192,13 +193,31 @@ module _ {D : Type 0} (content : D → List (List ℕ)) (identity : D → List �
   all-done _ zero k = absurd (cc)
 
   -- it can't be saved
-  pub leaves-unsaved : (end : End) (why : Halt) → saves ≡ true → status_of end ≡ 0
+  pub leaves-unsaved : HasDevice count last → (end : End) (why : Halt) → saves ≡ true → status_of end ≡ 0
       → PlaysOut first last events before after end
       → SaveGives content identity count last (Err why)
       → Leaves content identity count first events before after saves (Halted why) None
-  leaves-unsaved end halt.Device is zero k s =
+  leaves-unsaved has end halt.Device is zero k s =
       let done = all-done end zero k in
-      (refl, (last, inr (record { wanted = is; halted = done.0; done = done.1; lost = s })))
-  leaves-unsaved end halt.Halted is zero k s = let bad : true ≡ false = sym s
+      (refl, (last, has, inr (record { wanted = is; halted = done.0; done = done.1; lost = s })))
+  leaves-unsaved has end halt.Halted is zero k s = let bad : true ≡ false = sym s
       ∙ (all-done end zero k).1.sound in absurd (cc)
-  leaves-unsaved end _ is zero k s = absurd s
+  leaves-unsaved has end _ is zero k s = absurd s
+
+-- ---- a disk that can't fail
+
+not-risen : (n most : ℕ) → 0 < most → min (n + 1) most ≤ 0 → ⊥
+not-risen n most some low = absurd (omega arith)
+
+pub no-device : {D : Type 0} (content : D → List (List ℕ)) (identity : D → List ℕ) (first : View) (events : List Event)
+    (before after : Option (List ℕ)) (saves : Bool) (disk : Option D) (end : End)
+    → Leaves content identity (λ d. 0) first events before after saves end disk → end ≢ Halted halt.Device
+no-device content identity first events before after saves disk Running k is = absurd (cc)
+no-device content identity first events before after saves disk (Halted (halt.InitEnded status)) k is = absurd (cc)
+no-device content identity first events before after saves disk (Halted halt.Console) k is = absurd (cc)
+no-device content identity first events before after saves disk (Halted halt.Halted) k is = absurd k
+no-device content identity first events before after saves disk (Halted halt.Device) k is = elim k.1.2 [
+  | inl fails ↦ not-risen first.failures (2 ^ 64 - 1) (omega arith)
+      (subst (λ (x : ℕ). min (first.failures + 1) (2 ^ 64 - 1) ≤ x) (sym k.1.1.1) fails.fails.rises)
+  | inr fails ↦ not-risen k.1.0.failures (2 ^ 64 - 1) (omega arith) fails.lost.rises
+]

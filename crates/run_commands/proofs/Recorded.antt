@@ -2,7 +2,7 @@
 use Rattle.std.proofs.Common.{Bool, Err, List, None, Ok, Option, Result, Some, [], ap, append-nil, append_assoc, arith}
 use Rattle.std.proofs.Common.{false, get_or, inl, inr, take}
 use Rattle.std.proofs.Common.{length, refl, subst, sym, true, ℕ, ◌++◌, ◌+◌, ◌-◌, ◌<◌, ◌∙◌, ◌∷◌, ◌≡◌, ◌≤◌}
-use Rattle.std.specs.Prelude.{IfSome, IsSome, OnOk, flat_map, is_err, is_none, is_some, map, option_map, replicate, ⊤}
+use Rattle.std.specs.Prelude.{IfSome, IsSome, OnOk, is_err, is_none, is_some, map, option_map, replicate}
 use Rattle.std.specs.Prelude.{◌&&◌, ◌⊎◌}
 use Rattle.std.specs.Borrow.{Bor}
 use Rattle.std.specs.List.{All}
@@ -17,13 +17,13 @@ use Rattle.events.proofs.Recording.{records-none, records-then}
 use Rattle.events.proofs.RowsRead.{are-read, text-events}
 use Rattle.events.proofs.Scripting.{press-next}
 use Rattle.events.specs.Fields.{MOST}
-use Rattle.events.specs.Records.{Kept, Records, noted}
-use Rattle.events.specs.Rows.{IsRow, row_events, row_text, rows_events, rows_text}
+use Rattle.events.specs.Records.{Records}
+use Rattle.events.specs.Rows.{IsRow, row_events, row_text, rows_text}
 use Rattle.events.specs.Scripts.{IsScriptOf}
 use Rattle.events.specs.Transcripts.{text_events}
 use Rattle.events.specs.declared.row.Row.{Row}
 use Rattle.events.specs.declared.row.Row.TheVariants as row
-use Rattle.host.specs.Files.{Appends, HostFiles, Writes, with_end, with_file}
+use Rattle.host.specs.Files.{HostFiles, Writes, with_end, with_file}
 use Rattle.host.specs.declared.report.Failure.{Failure}
 use Rattle.run_commands.specs.ScriptFiles.{AreLines, HoldsScript, IsAllWritten, IsEmptyIn, IsSound, IsSoundOf}
 use Rattle.run_commands.specs.ScriptFiles.{IsWrittenOut, Puts, Recorder, Takes, kept_in, kept_of, lines_at, new_in}

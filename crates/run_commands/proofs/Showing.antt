@@ -1,15 +1,16 @@
 -- How a performance ends whose bytes are written out, and what it leaves.
 use Rattle.std.specs.Io.KnownBytes.{Keeps}
 use Rattle.std.specs.Int.NonZero.{non_zero_u64_get}
-use Rattle.std.specs.Prelude.{IfErr, IfOk, OnOk, option_map, ◌⊎◌}
+use Rattle.std.specs.Prelude.{IfErr, IfOk, OnOk, is_none, is_some, option_map, ◌&&◌, ◌⊎◌}
 use Rattle.std.specs.Result.{IsErrAnd}
 use Rattle.std.specs.declared.num.NonZeroU64.{NonZeroU64}
 use Rattle.std.proofs.Common.{[], Bool, Err, List, None, Ok, Option, Result, Some, false, inl, inr, refl, subst, sym}
 use Rattle.std.proofs.Common.{true, ℕ, ◌∙◌, ◌≡◌, ◌≢◌}
 use Rattle.std.proofs.KnownBytes.{Keeps-trans}
-use Rattle.blockdev.specs.Disk.{Failing}
+use Rattle.blockdev.specs.Disk.{Disk, Failing}
 use Rattle.calls.specs.declared.halt.Halt.{Halt}
 use Rattle.calls.specs.declared.halt.Halt.TheVariants as halt
+use Rattle.commandline.specs.declared.jobs.Run.{Run}
 use Rattle.driver.specs.Driven.{Gives, IsDriven, Printed, halts, spot_at}
 use Rattle.driver.specs.Pacing.{Follows}
 use Rattle.driver.specs.Played.{IsPlayed}
@@ -30,11 +31,13 @@ use Rattle.events.specs.Places.{first_place}
 use Rattle.events.specs.declared.clock.Clock.{Clock}
 use Rattle.events.specs.declared.clock.Clock.TheVariants.{Off}
 use Rattle.events.specs.declared.grammar.Act.{Act}
-use Rattle.run_commands.proofs.Ends.{plays-through, run-taken}
+use Rattle.run_commands.proofs.Ends.{no-device, plays-through, run-taken}
 use Rattle.run_commands.proofs.Sitting.{ended-as}
+use Rattle.run_commands.specs.Files.{IsMemoryEnd, RunsUnrecorded, disk_content, disk_failures, disk_identity}
 use Rattle.run_commands.specs.Runs.{PlaysOut, WritesOut}
 use Rattle.run_commands.specs.Shows.{IsImageRun, IsPieceGiven, IsRunWith, IsUnbootedWith, Noted, PieceGives, PlayedOut}
-use Rattle.run_commands.specs.Shows.{all_of, failing_count, failing_identity}
+use Rattle.run_commands.specs.Shows.{all_of, failing_count, failing_identity, unreached_of}
+use Rattle.run_commands.specs.declared.finish.Finish.{Finish}
 use Rattle.run_commands.specs.declared.performing.Piece.{Piece}
 use Rattle.run_commands.specs.declared.performing.Piece.TheVariants.{Play, Script}
 use Rattle.events.specs.Scripts.{script_events}
@@ -232,3 +235,21 @@ unrecorded content identity count (Some n) disk frames piece noted saves end unr
   runs = unrecorded-image (λ (d : Failing _). content d.device) (failing_identity identity)
       (failing_count count) i.runs;
 }
+
+-- ---- a disk in memory
+
+pub memory-end : (fail : Option NonZeroU64) (disk : Disk) (frames : ℕ) (piece : Piece) (noted : Noted) (saves : Bool)
+    (end : End) (unreached : Option Unreached) (left : Option Disk)
+    → IsRunWith disk_content disk_identity disk_failures fail disk frames piece noted saves end unreached left
+    → IsMemoryEnd fail end
+memory-end None disk frames piece noted saves end unreached left i =
+    no-device disk_content disk_identity i.first (all_of piece i.performed.plays.events) noted.before noted.after
+    (saves && is_none unreached) left end i.performed.leaves
+memory-end (Some n) disk frames piece noted saves end unreached left i = tt
+
+pub memory-sound : (disk : Disk) (words : Run) (piece : Piece) (before after : Option (List ℕ)) (finish : Finish)
+    (left : Option Disk) → RunsUnrecorded disk words piece before after finish left → IsMemoryEnd words.fail finish.end
+memory-sound disk words piece before after finish left runs =
+    memory-end words.fail disk words.frames piece
+    (record { kept = None; keeps = None; before = before; after = after }) (is_some words.save) finish.end
+    (unreached_of finish) left runs

@@ -1,23 +1,29 @@
 -- How a session ends whose bytes are written out.
 use Rattle.std.specs.Io.KnownBytes.{Keeps}
+use Rattle.std.specs.Prelude.{Option, is_some}
+use Rattle.blockdev.specs.Disk.{Disk}
 use Rattle.calls.specs.declared.halt.Halt.{Halt}
+use Rattle.commandline.specs.declared.jobs.Live.{Live}
 use Rattle.driver.specs.Driven.{Printed}
 use Rattle.driver.specs.Pacing.{Follows}
 use Rattle.driver.specs.Sessions.{Ends, IsSession}
 use Rattle.driver.specs.Tails.{written_of}
 use Rattle.driver.specs.declared.terminal.Given.{Given}
 use Rattle.events.specs.Records.{Kept}
+use Rattle.host.specs.Files.{HoldsFront, HostFiles}
 use Rattle.host.specs.Reports.{end_of}
+use Rattle.host.specs.declared.host.Front.{Front}
 use Rattle.host.specs.declared.report.End.{End}
 use Rattle.host.specs.declared.report.End.TheVariants.{Halted}
 use Rattle.machine.specs.View.{IsUp, View}
 use Rattle.unixmodel.specs.declared.event.Event.{Event}
-use Rattle.std.proofs.Common.{[], append-nil, arith, Bool, Err, false, inl, inr, List, Ok, Option, refl, Result}
+use Rattle.std.proofs.Common.{[], append-nil, arith, Bool, Err, false, inl, inr, List, Ok, refl, Result}
 use Rattle.std.proofs.Common.{subst, suc, sym, true, zero, ℕ, ◌∙◌, ◌≡◌, ◌≢◌}
 use Rattle.std.proofs.KnownBytes.{Keeps-trans}
 use Rattle.calls.specs.declared.halt.Halt.TheVariants as halt
-use Rattle.run_commands.proofs.Ends.{plays-through, run-taken}
-use Rattle.run_commands.specs.Seats.{AreOf, IsLeft, SitsOut}
+use Rattle.run_commands.proofs.Ends.{no-device, plays-through, run-taken}
+use Rattle.run_commands.specs.Files.{BootsFront, LivesOn, disk_content, disk_failures, disk_identity, most_of_image}
+use Rattle.run_commands.specs.Seats.{AreOf, IsLeft, IsSat, SitsOut, quantum_in}
 use Rattle.unixmodel.specs.Failures.{Rises}
 
 are-of : (all events : List Event) (ended : Result (Unit {0}) Halt) (written : Bool) → Follows all ended events
@@ -78,3 +84,26 @@ module _ {quantum : ℕ} {gives later : Option (List Given)} {kept keeps : Optio
   sits-out {fails} {end} is written sound fault =
       ended-as {fails = fails} ended (SitsOut quantum gives later kept keeps old new before after) written
       (λ w few. sits-with w (λ x. sym is ∙ few x)) sound fault
+
+-- ---- on the machine of an image
+
+pub lives-on : {held : Option HostFiles} {words : Live} {front : Front} {quantum : ℕ}
+    {gives later : Option (List Given)} {kept keeps : Option Kept} {first : View} {before after : Option (List ℕ)}
+    {saves : Bool} {end : End} {left : Option Disk} → HoldsFront words.image.now most_of_image front held
+    → BootsFront front words.frames first → quantum ≡ quantum_in words.quantum → saves ≡ is_some words.save
+    → IsSat disk_content disk_identity disk_failures quantum gives later kept keeps first before after saves end left
+    → LivesOn held words before after end
+lives-on {words = words} {front} {gives = gives} {later} {kept} {keeps} {first} {before} {after} {saves} {end} {left}
+    image booted quantum_is saves_is sat = record {
+      front = front;
+      image = image;
+      first = first;
+      booted = booted;
+      gives = gives;
+      later = later;
+      kept = kept;
+      keeps = keeps;
+      left = left;
+      sat = rw (← quantum_is, ← saves_is) sat;
+      sound = no-device disk_content disk_identity first sat.sits.events before after saves left end sat.leaves;
+    }

@@ -53,6 +53,10 @@ pub record FailsToSave {D : Type 0} (identity : D → List ℕ) (count : D → �
   pub done : IsDone first last (run first.state events) before after halted
   pub lost : IsLost identity count last
 
+-- the machine's count of failures is that of a device: of one that can't fail it is 0
+abbrev pub HasDevice : {D : Type 0} → (D → ℕ) → View → Type 0
+HasDevice {D} count m = (device : D) × (count device ≡ m.failures)
+
 -- what events leave of a machine, which has not failed yet: where the device or the console fails, no disk
 abbrev pub Leaves : {D : Type 0} → (D → List (List ℕ)) → (D → List ℕ) → (D → ℕ) → View → List Event → Option (List ℕ)
     → Option (List ℕ) → Bool → End → Option D → Type 0
@@ -61,7 +65,7 @@ Leaves content identity count first events before after saves Running disk =
 Leaves content identity count first events before after saves (Halted (halt.InitEnded status)) disk =
     IsPlayed content identity first events before after saves (Some status) disk
 Leaves content identity count first events before after saves (Halted halt.Device) disk = (disk ≡ None)
-    × ((last : View) × (DeviceFailsIn first last events before after
+    × ((last : View) × HasDevice count last × (DeviceFailsIn first last events before after
     ⊎ FailsToSave identity count first last events before after saves))
 Leaves content identity count first events before after saves (Halted halt.Console) disk = (disk ≡ None)
     × AppendsBeginning before after (run first.state events).bytes

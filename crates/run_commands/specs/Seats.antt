@@ -1,5 +1,7 @@
 -- How a session at a keyboard ends, and what it leaves.
-use Rattle.std.specs.Prelude.{Bool, List, Option, [], length, ℕ, ◌++◌, ◌∷◌, ◌≡◌, ◌⊎◌}
+use Rattle.std.specs.Prelude.{Bool, List, None, Option, Some, [], length, min, ℕ, ◌++◌, ◌∷◌, ◌≡◌, ◌⊎◌}
+use Rattle.std.specs.Int.NonZero.{non_zero_u64_get}
+use Rattle.std.specs.declared.num.NonZeroU64.{NonZeroU64}
 use Rattle.driver.specs.Sessions.{GaveFirst, session}
 use Rattle.driver.specs.declared.terminal.Given.{Given}
 use Rattle.driver.specs.declared.terminal.Given.TheVariants as given
@@ -54,3 +56,8 @@ abbrev pub SatTo : {D R W : Type 0} → (D → List (List ℕ)) → (D → List 
 SatTo content identity count contents gives kept quantum before old out saves sat =
     IsSat content identity count quantum (gives before) (gives sat.terminal) (kept before) (kept sat.terminal) old
     (contents out) (contents sat.stdout) saves sat.end sat.disk
+
+-- how many steps there are between two ticks, where the words say so, and where they don't
+abbrev pub quantum_in : Option NonZeroU64 → ℕ
+quantum_in None = 10000
+quantum_in (Some n) = min (non_zero_u64_get n) 1000000000

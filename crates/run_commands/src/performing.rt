@@ -156,6 +156,7 @@ pub(crate) fn leave<D: BlockDev, T: Translate>(
 ) -> (End, Option<D>)
     ensures { LeavesOf D.content D.identity D.failures machine saves end result.0 result.1 }
 {
+    let _device = machine.device();
     if !saves || end.status() != 0 {
         return (end, None);
     }

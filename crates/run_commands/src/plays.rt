@@ -1,7 +1,7 @@
 //! Plays: scripts that wait for what the machine does.
 ghost use Rattle.std.specs.Prelude.{IfOk, IsErr, ◌≡◌};
 ghost use Rattle.host.specs.Files.{Holds, HoldsFront};
-ghost use Rattle.run_commands.specs.Files.{PlaysFront, most_of_image};
+ghost use Rattle.run_commands.specs.Files.{IsRead, PlaysFiles, most_of_image};
 ghost use Rattle.run_commands.specs.Tellings.{IsEndStatus};
 ghost use Rattle.run_commands.specs.declared.performing.Piece.TheVariants as Piece;
 
@@ -49,8 +49,9 @@ fn go<'w, H: Host, V: Watch, W: Write + Drop>(
     watch: &mut V,
     stdout: W,
 ) -> Result<Gone<'w, W>, Failure<'w>>
-    ensures { IfOk result (λ gone. PlaysFront reading.entry.image reading.entry.words.now.run
-        (Piece.Play reading.entry.play) (W.contents stdout) (W.contents gone.stdout) gone.finish) }
+    requires { IsRead (H.files host.old) reading.words.now.run reading.image (Piece.Play reading.play) }
+    ensures { IfOk result (λ gone. PlaysFiles (H.files host.old) reading.entry.words.now.run (W.contents stdout)
+        (W.contents gone.stdout) gone.finish) }
 {
     let Reading { words, play, image } = reading;
     let disk = disk_of(image)?;
@@ -158,7 +159,9 @@ fn perform_read<H: Host, S: Screen, W: Write, E: Write>(
     host: &mut H,
     stdout: &mut W,
     stderr: &mut E,
-) -> u8 {
+) -> u8
+    requires { IsRead (H.files host.old) reading.words.now.run reading.image (Piece.Play reading.play) }
+{
     let Setting { alloc, meter } = setting;
     let words = reading.words;
     let telling = words.run.telling;

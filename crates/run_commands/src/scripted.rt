@@ -1,10 +1,11 @@
 //! Runs whose events a script has, and what is printed of them.
-ghost use Rattle.std.specs.Prelude.{IsErr, ◌≡◌};
+ghost use Rattle.std.specs.Prelude.{IfOk, IsErr, ◌≡◌};
+ghost use Rattle.run_commands.specs.Files.{RunsFiles};
 ghost use Rattle.run_commands.specs.Tellings.{IsEndStatus};
 
 use crate::finish::Finish;
 use crate::naming::symbolizer_of;
-use crate::performing::{Piece, Show, perform_watched};
+use crate::performing::{Performed, Piece, Show, perform_watched};
 use crate::progress::{Gauge, Meter, Setting};
 use crate::runs;
 use crate::runs::{read_run, script_of};
@@ -90,14 +91,26 @@ fn crier_and_gauge<'m, S: Screen, E: Write + Drop>(
     }
 }
 
-// A run that is watched: how it ended, the disk that is left where it was to be saved, and what was noted.
-fn run_told<'a, H: Host, S: Screen, W: Write, E: Write>(
+// What is left of a run: how it ended, the disk where it is to be saved, what was noted, and the output.
+#[derive(Drop)]
+struct Ran<W> {
+    finish: Finish,
+    disk: Option<MemDisk>,
+    teller: Option<Teller>,
+    stdout: W,
+}
+
+// A run that is watched.
+fn run_told<'a, H: Host, S: Screen, W: Write + Drop, E: Write>(
     setting: Setting<'_, S>,
     words: &Run<'a>,
     host: &mut H,
-    stdout: &mut W,
+    stdout: W,
     stderr: &mut E,
-) -> Result<(Finish, Option<MemDisk>, Option<Teller>), Failure<'a>> {
+) -> Result<Ran<W>, Failure<'a>>
+    ensures { IfOk result (λ ran. RunsFiles (H.files host.old) words.now (W.contents stdout)
+        (W.contents ran.stdout) ran.finish ran.disk) }
+{
     let Setting { alloc, meter } = setting;
     let (image, bytes) = read_run(host, words)?;
     let script = script_of(alloc, words.script, bytes.as_slice())?;
@@ -111,24 +124,43 @@ fn run_told<'a, H: Host, S: Screen, W: Write, E: Write>(
         words: &own_words,
         piece: Piece::Script(script.as_slice()),
     };
-    let performed = perform_watched(disk, show, &mut both, &mut *stdout)?;
-    Ok((
-        performed.finish,
-        performed.disk,
-        Some(both.first.into_teller()),
-    ))
+    let Performed {
+        finish,
+        disk,
+        stdout,
+        ..
+    } = perform_watched(disk, show, &mut both, stdout)?;
+    Ok(Ran {
+        finish,
+        disk,
+        teller: Some(both.first.into_teller()),
+        stdout,
+    })
 }
 
 // A run of which nothing is noted.
-fn run_untold<'a, H: Host, S: Screen, W: Write>(
+fn run_untold<'a, H: Host, S: Screen, W: Write + Drop>(
     setting: Setting<'_, S>,
     words: &Run<'a>,
     host: &mut H,
-    stdout: &mut W,
-) -> Result<(Finish, Option<MemDisk>, Option<Teller>), Failure<'a>> {
+    stdout: W,
+) -> Result<Ran<W>, Failure<'a>>
+    ensures { IfOk result (λ ran. RunsFiles (H.files host.old) words.now (W.contents stdout)
+        (W.contents ran.stdout) ran.finish ran.disk) }
+{
     let Setting { alloc, meter } = setting;
-    let performed = runs::run(alloc, words, host, Gauge { meter }, stdout)?;
-    Ok((performed.finish, performed.disk, None))
+    let Performed {
+        finish,
+        disk,
+        stdout,
+        ..
+    } = runs::run(alloc, words, host, Gauge { meter }, stdout)?;
+    Ok(Ran {
+        finish,
+        disk,
+        teller: None,
+        stdout,
+    })
 }
 
 /// The command `run`: boots a machine from an image, runs a script, and prints how that ended. The image that is left
@@ -147,7 +179,14 @@ pub fn run<H: Host, S: Screen, W: Write, E: Write>(
         run_untold(setting, &words, host, stdout)
     };
     match ran {
-        Ok((finish, disk, teller)) => {
+        Ok(
+            Ran {
+                finish,
+                disk,
+                teller,
+                ..
+            },
+        ) => {
             let written = runs::keep(words.save, disk, host);
             let ended = Ended {
                 finish,

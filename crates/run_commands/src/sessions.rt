@@ -1,7 +1,9 @@
 //! A session at the keyboard.
-ghost use Rattle.std.specs.Prelude.{IfOk, IfSome, OnOk, []};
+ghost use Rattle.std.specs.Prelude.{IfOk, IfSome, OnOk, [], ◌≡◌};
 ghost use Rattle.host.specs.Files.{Writes};
-ghost use Rattle.run_commands.specs.Seats.{SatTo, SitsOutTo};
+ghost use Rattle.run_commands.specs.Files.{BootsFront, LivesOn};
+ghost use Rattle.run_commands.specs.ScriptFiles.{IsEmptyIn};
+ghost use Rattle.run_commands.specs.Seats.{SatTo, SitsOutTo, quantum_in};
 ghost use Rattle.machine.specs.View.{IsUp};
 
 use crate::finish::end_with;
@@ -45,7 +47,9 @@ struct Sitting {
 }
 
 // How many steps there are between two ticks.
-fn quantum_of(words: &Live<'_>) -> u32 {
+fn quantum_of(words: &Live<'_>) -> u32
+    ensures { result ≡ quantum_in words.now.quantum }
+{
     match words.quantum {
         Some(quantum) => u32::try_from(quantum.get())
             .unwrap_or(MOST_STEPS)
@@ -112,7 +116,8 @@ fn boot_image<'a>(
     words: &Live<'a>,
     image: Front,
 ) -> Result<Machine<MemDisk, Tlb<64>>, Failure<'a>>
-    ensures { IfOk result IsUp }
+    ensures up { IfOk result IsUp }
+    ensures booted { IfOk result (BootsFront image words.now.frames) }
 {
     let disk = disk_of(image)?;
     match boot(alloc, disk, Tlb::<64>::new(), words.frames) {
@@ -123,7 +128,9 @@ fn boot_image<'a>(
 
 // Makes the file of a record, which is empty so far, where one is wanted.
 fn begin_record<'a, H: Host>(script: Option<&'a str>, host: &mut H) -> Result<(), Failure<'a>>
-    ensures { OnOk result (IfSome script.entry (λ name. Writes name.now [] (H.files host.old) (H.files host.new))) }
+    ensures written { OnOk result
+        (IfSome script.entry (λ name. Writes name.now [] (H.files host.old) (H.files host.new))) }
+    ensures empty { OnOk result (IsEmptyIn script.entry (H.files host.new)) }
 {
     match script {
         Some(name) => write(host, name, &[]),
@@ -131,14 +138,25 @@ fn begin_record<'a, H: Host>(script: Option<&'a str>, host: &mut H) -> Result<()
     }
 }
 
-// A session, to its end: how it ended, and whether all files were written.
-fn live<'a, H: Host, S: Screen, W: Write, E: Write>(
+// What is left of a session at the keyboard: how it ended, whether all files were written, and the output.
+#[derive(Drop)]
+struct Left<'a, W> {
+    end: End,
+    written: Result<(), Failure<'a>>,
+    stdout: W,
+}
+
+// A session, to its end.
+fn live<'a, H: Host, S: Screen, W: Write + Drop, E: Write>(
     setting: Setting<'_, S>,
     words: &Live<'a>,
     host: &mut H,
-    stdout: &mut W,
+    stdout: W,
     stderr: &mut E,
-) -> Result<(End, Result<(), Failure<'a>>), Failure<'a>> {
+) -> Result<Left<'a, W>, Failure<'a>>
+    ensures { IfOk result (λ left. LivesOn (H.files host.old) words.now (W.contents stdout) (W.contents left.stdout)
+        left.end) }
+{
     let Setting { alloc, meter } = setting;
     let image = read_image(host, words.image)?;
     let symbolizer = if meter.has_screen() {
@@ -158,11 +176,15 @@ fn live<'a, H: Host, S: Screen, W: Write, E: Write>(
         end,
         disk,
         terminal,
-        ..
+        stdout,
     } = sit(machine, sitting, seat, crier, stdout);
     let recorded = terminal.finish();
     let saved = keep(words.save, disk, host);
-    Ok((end, recorded.and(saved)))
+    Ok(Left {
+        end,
+        written: recorded.and(saved),
+        stdout,
+    })
 }
 
 // Prints how a session ended, after the command that replays it, where there is a record and nothing failed.
@@ -187,7 +209,7 @@ pub fn perform<H: Host, S: Screen, W: Write, E: Write>(
     stderr: &mut E,
 ) -> u8 {
     match live(setting, &words, host, stdout, stderr) {
-        Ok((end, written)) => {
+        Ok(Left { end, written, .. }) => {
             tell_end(&words, end, written.is_ok(), stderr);
             match written {
                 Ok(()) => end.status(),

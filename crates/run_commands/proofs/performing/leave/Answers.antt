@@ -11,5 +11,5 @@ returns-in-Ok g c first events before after k =
 pub returns-in-Err : goal.returns-in-Err
 returns-in-Err g c first events before after k =
     leaves-unsaved g.D.BlockDev.content g.D.BlockDev.identity g.D.BlockDev.failures first c.args.machine events before
-    after c.args.saves c.args.end c.in-Err.halt
+    after c.args.saves (c.device-device.result.now, c.device-device.ensures.failures) c.args.end c.in-Err.halt
     c.if-not-saves.false (sym c.status.ensures ∙ c.if-status-ne0.false) k c.in-Err.ensures
