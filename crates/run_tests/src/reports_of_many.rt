@@ -124,10 +124,12 @@ init:   .ascii \"/init\\0\"
 name:   .ascii \"console\\0\"
 ";
 
-/// Has numbers below 0 in two registers.
+/// Has numbers below 0 in three registers, and one of more than 32 bits.
 const NEGATIVE: &str = "
         li ra, -1
         li gp, -2
+        slli tp, ra, 40
+        srli t0, ra, 24
 again:  j again
 ";
 
@@ -269,15 +271,17 @@ free frames: 55
         ..REPORTED
     },
     Row {
-        name: "registers below 0",
+        name: "registers below 0 and of more than 32 bits",
         init: NEGATIVE,
         asked: Asked::Registers(1),
         text: "\
 pid 1 (/init): registers
-  pc   0x0000000000000010
+  pc   0x0000000000000018
   ra   0xffffffffffffffff -1
   sp   0x0000000000002fe0 12256
   gp   0xfffffffffffffffe -2
+  tp   0xffffff0000000000 -1099511627776
+  t0   0x000000ffffffffff 1099511627775
 ",
         ..REPORTED
     },

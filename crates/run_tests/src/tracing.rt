@@ -143,9 +143,10 @@ const PIPELINE: [(&str, Given<'static>); 4] = [
 ];
 
 /// Code that is loaded by hand, what calls returned and wrote, a load, a store and a branch.
-const COMMITS: [&str; 5] = [
+const COMMITS: [&str; 6] = [
     "# pid 1 size 12288\n# pid 1 pc 0x0000000000000000\n# pid 1 x2 0x0000000000002fe0\n",
     "core   0: 0 0x0000000000000048 (0x00488893) x17 0x0000000000000004\n# pid 1 pipe = 0\n# pid 1 mem 0x0000000000002fa0 0300000004000000\n",
+    "# pid 1 wait = 3\n# pid 1 mem 0x0000000000002fd8 00000000\ncore   0: 0 0x",
     "core   0: 0 0x0000000000000060 (0x00442503) x10 0x0000000000000004 mem 0x0000000000002fa4\n",
     "core   0: 0 0x0000000000000114 (0x00a5b023) mem 0x0000000000000198 0x000000000000018c\n",
     "# pid 3 read = 3\n# pid 3 mem 0x0000000000000058 68690a\ncore   0: 0 0x0000000000000024 (0x00050613) x12 0x0000000000000003\ncore   0: 0 0x0000000000000028 (0x00060e63)\n",
@@ -162,6 +163,73 @@ const EVENTS: [&str; 9] = [
     "\"pid\":2,\"program\":\"echo\",\"parent\":1,\"how\":\"exit\",\"status\":3,\"killer\":null,\"descriptors\":[{\"descriptor\":0,\"on\":{\"kind\":\"console\",",
     "\"pid\":3,\"program\":\"cat\",\"call\":\"read\",",
     "\"result\":3,\"data\":\"hi\\n\",\"cut\":false}\n",
+];
+
+/// Slices of the hart and of calls, one of which waits, a child, bytes through a pipe, and an end that is waited for: each
+/// at the number of events before it.
+const SPANS: [&str; 12] = [
+    "\"cat\":\"call\",\"name\":\"open\",\"ts\":7,\"dur\":1,\"pid\":1,\"tid\":2,",
+    "\"cat\":\"life\",\"name\":\"born\",\"ts\":24,\"dur\":1,\"pid\":2,\"tid\":2}",
+    "{\"ph\":\"s\",\"cat\":\"fork\",\"name\":\"fork\",\"id\":1,\"ts\":23,\"pid\":1,\"tid\":2}",
+    "{\"ph\":\"f\",\"bp\":\"e\",\"cat\":\"fork\",\"name\":\"fork\",\"id\":1,\"ts\":24,\"pid\":2,\"tid\":2}",
+    "\"cat\":\"hart\",\"name\":\"runs\",\"ts\":1,\"dur\":41,\"pid\":1,\"tid\":1}",
+    "{\"ph\":\"C\",\"name\":\"pipe 0\",\"ts\":79,\"pid\":0,\"args\":{\"bytes\":1}}",
+    "{\"ph\":\"C\",\"name\":\"pipe 0\",\"ts\":124,\"pid\":0,\"args\":{\"bytes\":0}}",
+    "\"name\":\"bytes\",\"id\":3,\"ts\":78,\"pid\":2,\"tid\":2}",
+    "\"name\":\"bytes\",\"id\":3,\"ts\":123,\"pid\":3,\"tid\":2}",
+    "\"name\":\"wait\",\"ts\":41,\"dur\":108,\"pid\":1,\"tid\":2,",
+    "\"name\":\"end\",\"id\":6,\"ts\":91,\"pid\":2,\"tid\":2}",
+    "\"name\":\"end\",\"id\":6,\"ts\":148,\"pid\":1,\"tid\":2}",
+];
+
+/// The child writes more bytes than a pipe holds, which the parent reads twice.
+const FILLS: &str = "
+        addi a0, sp, -16
+        li a7, 4
+        ecall
+        li a7, 1
+        ecall
+        beq a0, zero, child
+        li a0, 0
+        addi a1, sp, -1024
+        li a2, 512
+        li a7, 5
+        ecall
+        li a0, 0
+        ecall
+        li a0, 0
+        li a7, 2
+        ecall
+child:  li a0, 1
+        li a1, 0
+        li a2, 600
+        li a7, 16
+        ecall
+        li a0, 0
+        li a7, 2
+        ecall
+";
+
+/// A write that waits for room.
+static FULL_PIPE: Case = Case {
+    name: "a write waits for room",
+    files: &[("/init", Given::Program(FILLS))],
+    part: Part::Whole,
+    is_text_full: false,
+    text: "",
+    commits: &[],
+    events: &[],
+    missing: None,
+};
+
+/// Its slice, and the bytes that it puts into the pipe as it begins and as it ends.
+const FULL_SPANS: [&str; 6] = [
+    "\"name\":\"write\",\"ts\":27,\"dur\":6,\"pid\":2,\"tid\":2,",
+    "{\"ph\":\"C\",\"name\":\"pipe 0\",\"ts\":28,\"pid\":0,\"args\":{\"bytes\":512}}",
+    "{\"ph\":\"C\",\"name\":\"pipe 0\",\"ts\":33,\"pid\":0,\"args\":{\"bytes\":88}}",
+    "{\"ph\":\"s\",\"cat\":\"pipe\",\"name\":\"bytes\",\"id\":2,\"ts\":28,\"pid\":2,\"tid\":2}",
+    "{\"ph\":\"s\",\"cat\":\"pipe\",\"name\":\"bytes\",\"id\":3,\"ts\":32,\"pid\":2,\"tid\":2}",
+    "{\"ph\":\"f\",\"bp\":\"e\",\"cat\":\"pipe\",\"name\":\"bytes\",\"id\":3,\"ts\":38,\"pid\":1,\"tid\":2}",
 ];
 
 /// A child that faults, and its parent that gets the status and faults, too.
@@ -479,6 +547,22 @@ fn holds(alloc: Global, case: &Case) -> Option<bool> {
     let (seen, seen_done) = pages_of(alloc, case, Shown::Calls)?;
     let is_right = ends(case, done) && are_right(alloc, case, &pages);
     Some(is_right && ends(case, seen_done) && are_same(&pages, &seen))
+}
+
+// Whether the spans of a run have these.
+fn has_spans(alloc: Global, case: &Case, spans: &[&str]) -> Option<bool> {
+    let (pages, _) = pages_of(alloc, case, Shown::Each)?;
+    let text = pages.spans.as_str();
+    Some(spans.iter().all(|span| text.contains(*span)))
+}
+
+#[test]
+fn spans_have_the_times_of_steps(rt: HostRuntime) {
+    let alloc = rt.alloc();
+    let pipeline = has_spans(alloc, &CASES[0], &SPANS);
+    expect_row(&rt, "a shell pipes echo into cat", pipeline);
+    let full = has_spans(alloc, &FULL_PIPE, &FULL_SPANS);
+    expect_row(&rt, FULL_PIPE.name, full);
 }
 
 #[test]
