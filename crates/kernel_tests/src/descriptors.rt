@@ -1,7 +1,8 @@
 //! Open files that come, are shared, and go.
 use crate::expected::expect_row;
-use files::{End, FileFault, Files, OpenFile, PLACES, Target};
+use files::{End, FileFault, Files, OpenFile, Target};
 use std::process::Abort;
+use unixmodel::limits::OPEN_FILES;
 
 // What files are open on: a file and the same one once it was moved, another file, the console, a device that there
 // isn't, and the ends of a pipe.
@@ -67,7 +68,7 @@ enum Row {
 }
 
 fn fill(files: &mut Files, target: Target) -> bool {
-    for place in 0..PLACES {
+    for place in 0..OPEN_FILES {
         if files.open(open_on(target)) != Ok(place) {
             return false;
         }

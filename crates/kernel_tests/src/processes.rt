@@ -1,8 +1,9 @@
 //! Worked cases of the table.
 use crate::expected::expect_row;
-use proc::{Mask, PLACES, Place, ProcFault, Process, Table, zombie_child};
+use proc::{Mask, Place, ProcFault, Process, Table, zombie_child};
 use std::process::Abort;
 use unixmodel::call::Call;
+use unixmodel::limits::PROCESSES;
 use unixmodel::process::{Mode, Pending};
 
 // A ready process; alloc chooses its pid.
@@ -59,7 +60,7 @@ fn looks_at_who_is_awake(rt: HostRuntime) {
 // A mask of these slots.
 fn mask_of(places: &[usize]) -> Mask {
     let mut mask = Mask::all();
-    for at in 0..PLACES {
+    for at in 0..PROCESSES {
         mask.clear(at);
     }
     for at in places {
@@ -139,7 +140,7 @@ fn next_seat(table: &Table) -> Result<(usize, u32), ProcFault> {
 }
 
 fn put(table: &mut Table, place: usize, parent: u32) -> bool {
-    if place >= PLACES {
+    if place >= PROCESSES {
         return false;
     }
     table.put(place, child_of(parent));
