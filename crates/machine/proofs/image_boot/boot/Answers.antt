@@ -8,8 +8,8 @@ returns-in-Ok g c = record {
   refused = refused-from g.D.BlockDev.identity g.D.BlockDev.failures c.args.disk c.in-Ok.ensures.mounted c.args.frames
       c.boot_on.result c.boot_on.ensures.refused;
   count = counted-from g.D.BlockDev.identity g.D.BlockDev.failures c.in-Ok.tree c.args.frames
-      (omega (arith, c.if-frames-lt-FEWEST_FRAMES.false)) (omega (arith, c.if-frames-gt-MOST_FRAMES.false)) c.boot_on.result
-      c.boot_on.ensures.refused;
+      (omega (arith, c.if-frames-lt-FEWEST_FRAMES.false)) (omega (arith, c.if-frames-gt-MOST_FRAMES.false))
+      c.boot_on.result c.boot_on.ensures.refused;
 }
 
 pub returns-in-Err-clause-refused : goal.returns-in-Err-clause-refused
