@@ -1,5 +1,7 @@
 //! What is reported of several processes, of those that ended, and of what they have open.
 use crate::stops::{Asked, LOOP, RAN, Row, expect_report};
+use machine::Halt;
+use reports::{Outcome, PlayEnd};
 
 /// Two processes read a pipe whose both ends both have.
 const READERS: &str = "
@@ -26,9 +28,9 @@ words:  .dword 0
 name:   .ascii \"nope\\0\"
 ";
 
-/// Waits for 65 children, one after the other, each of which stores to its code.
+/// Waits for 66 children, one after the other, each of which stores to its code.
 const FAULTS: &str = "
-        li s0, 65
+        li s0, 66
 again:  li a7, 1
         ecall
         beq a0, zero, child
@@ -146,7 +148,7 @@ const REPORTED: Row = Row {
     json: &[],
 };
 
-static ROWS: [Row; 10] = [
+static ROWS: [Row; 12] = [
     Row {
         name: "two processes read a pipe whose both ends both have",
         init: READERS,
@@ -175,11 +177,11 @@ free frames: 55
         ..REPORTED
     },
     Row {
-        name: "65 faults",
+        name: "66 faults",
         init: FAULTS,
         steps: 5000,
         asked: Asked::Json,
-        json: &["  \"more_ended\": 0,\n", "  \"more_faults\": 1\n}"],
+        json: &["  \"more_ended\": 0,\n", "  \"more_faults\": 2\n}"],
         ..REPORTED
     },
     Row {
@@ -225,6 +227,30 @@ pid 1 (/init) sleeps until tick 1; parent 0, pc 0x24, 12288 bytes, 9 frames
 pid 2 (/init) ended with status 3; parent 1, pc 0x3c, 12288 bytes, 9 frames
 free frames: 46
 ",
+        ..REPORTED
+    },
+    Row {
+        name: "a play that is done, after a tick",
+        ticks: 1,
+        outcome: Outcome {
+            halt: None,
+            play: Some(PlayEnd::Done),
+        },
+        asked: Asked::Json,
+        json: &[
+            "    \"why\": \"ready\",\n    \"status\": null,\n    \"pid\": null\n",
+            "    \"end\": \"done\",\n    \"line\": null,\n    \"steps\": null\n",
+        ],
+        ..REPORTED
+    },
+    Row {
+        name: "bytes of the console that are lost",
+        outcome: Outcome {
+            halt: Some(Halt::Console),
+            play: None,
+        },
+        asked: Asked::Json,
+        json: &["    \"why\": \"console\",\n"],
         ..REPORTED
     },
     Row {
