@@ -189,8 +189,22 @@ free frames: 55
         init: KILLERS,
         asked: Asked::Json,
         json: &[
-            "      \"pid\": 2,\n      \"program\": \"/init\",\n      \"parent\": 1,\n      \"how\": \"exit\",\n      \"status\": 0,\n      \"killer\": null\n",
-            "      \"pid\": 3,\n      \"program\": \"/init\",\n      \"parent\": 1,\n      \"how\": \"killed\",\n      \"status\": -1,\n      \"killer\": 1\n",
+            "\
+      \"pid\": 2,
+      \"program\": \"/init\",
+      \"parent\": 1,
+      \"how\": \"exit\",
+      \"status\": 0,
+      \"killer\": null
+",
+            "\
+      \"pid\": 3,
+      \"program\": \"/init\",
+      \"parent\": 1,
+      \"how\": \"killed\",
+      \"status\": -1,
+      \"killer\": 1
+",
         ],
         ..REPORTED
     },
@@ -200,7 +214,15 @@ free frames: 55
         asked: Asked::Json,
         json: &[
             "    \"why\": \"ended\",\n    \"status\": -1,\n",
-            "      \"at\": 7,\n      \"pid\": 1,\n      \"program\": \"/init\",\n      \"parent\": 0,\n      \"how\": \"killed\",\n      \"status\": -1,\n      \"killer\": 1\n",
+            "\
+      \"at\": 7,
+      \"pid\": 1,
+      \"program\": \"/init\",
+      \"parent\": 0,
+      \"how\": \"killed\",
+      \"status\": -1,
+      \"killer\": 1
+",
         ],
         ..REPORTED
     },

@@ -165,8 +165,8 @@ const EVENTS: [&str; 9] = [
     "\"result\":3,\"data\":\"hi\\n\",\"cut\":false}\n",
 ];
 
-/// Slices of the hart and of calls, one of which waits, a child, bytes through a pipe, and an end that is waited for: each
-/// at the number of events before it.
+/// Slices of the hart and of calls, one of which waits, a child, bytes through a pipe, and an end that is waited for.
+/// Each is at the number of events before it.
 const SPANS: [&str; 12] = [
     "\"cat\":\"call\",\"name\":\"open\",\"ts\":7,\"dur\":1,\"pid\":1,\"tid\":2,",
     "\"cat\":\"life\",\"name\":\"born\",\"ts\":24,\"dur\":1,\"pid\":2,\"tid\":2}",

@@ -28,4 +28,5 @@ returns-clause-booted c =
 
 pub returns-clause-count : goal.returns-clause-count
 returns-clause-count c =
-    counted _ c.args.frames (omega (arith, c.if-frames-lt-FEWEST_FRAMES.false)) (omega (arith, c.if-frames-gt-MOST_FRAMES.false))
+    counted _ c.args.frames (omega (arith, c.if-frames-lt-FEWEST_FRAMES.false))
+    (omega (arith, c.if-frames-gt-MOST_FRAMES.false))
