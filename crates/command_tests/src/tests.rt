@@ -49,13 +49,15 @@ const UNTOLD: Telling<'static> = Telling {
 // How a process ends at a fault.
 const DEAD: &str = "halt 1 InitEnded -1\n";
 
-// The files in memory: `program` or `host`, `script` or `manifest`, and `image`, which alone can be
-// written.
+// The files in memory: `program` or `host`, `script` or `manifest`, and `image`, which alone can be written. In a
+// directory `d`, which may be made, all have the text, and of those that are written the names are kept, each with a
+// blank.
 #[derive(Drop)]
 struct Files {
     bytes: Vec<u8>,
     text: Vec<u8>,
     image: Vec<u8>,
+    names: String,
 }
 
 impl Host for Files {
@@ -64,7 +66,7 @@ impl Host for Files {
     fn read(&mut self, name: &str) -> Result<Vec<u8>, HostFault> {
         let found = if name == "program" || name == "host" {
             &self.bytes
-        } else if name == "script" || name == "manifest" {
+        } else if name == "script" || name == "manifest" || name.starts_with("d/") {
             &self.text
         } else if name == "image" {
             &self.image
@@ -75,11 +77,18 @@ impl Host for Files {
     }
 
     fn write(&mut self, name: &str, bytes: &[u8]) -> Result<(), HostFault> {
+        if name.starts_with("d/") {
+            return write!(self.names, "{name} ").map_err(|_| HostFault);
+        }
         if name != "image" {
             return Err(HostFault);
         }
         self.image.clear();
         self.image.extend_from_slice(bytes).map_err(|_| HostFault)
+    }
+
+    fn make_folder(&mut self, name: &str) -> Result<(), HostFault> {
+        if name == "d" { Ok(()) } else { Err(HostFault) }
     }
 }
 
@@ -89,6 +98,7 @@ fn files_of(alloc: Global, bytes: Vec<u8>, text: &[u8]) -> Result<Files, AllocEr
         bytes,
         text: text.to_vec(alloc)?,
         image: Vec::new(alloc),
+        names: String::new(alloc),
     })
 }
 

@@ -100,11 +100,8 @@ fn debug_link<'a, H: Host, W: Write>(
     words: &Gdb<'a>,
     disk: MemDisk,
     script: &[Command<'_>],
-    programs: Vec<Program>,
-    host: &mut H,
-    stdout: &mut W,
+    mut link: Link<'_, '_, H, W>,
 ) -> Result<(Timeline, Option<LinkFault>), Failure<'a>> {
-    let mut link = Link::new(host, stdout, programs);
     match debug_run(alloc, words, disk, script, &mut link) {
         Ok(timeline) => Ok((timeline, link.fault())),
         Err(failure) => Err(failure),
@@ -124,15 +121,8 @@ fn serve<'a, H: Host, W: Write, E: Write>(
     let script = script_of(alloc, words.script.unwrap_or(""), bytes.as_slice())?;
     let programs = programs_told(alloc, words, &image, host, stderr)?;
     let disk = disk_of(image)?;
-    let (timeline, fault) = match debug_link(
-        alloc,
-        words,
-        disk,
-        script.as_slice(),
-        programs,
-        host,
-        stdout,
-    ) {
+    let link = Link::new(host, stdout, programs);
+    let (timeline, fault) = match debug_link(alloc, words, disk, script.as_slice(), link) {
         Ok(debugged) => debugged,
         Err(failure) => return Err(failure),
     };

@@ -15,7 +15,7 @@ use timeline::{Events, Timeline};
 /// How many bytes of the host a copy of a machine takes for each frame, and how many beside its frames and its disk.
 const FRAME_BYTES: u64 = 4098;
 
-const OTHER_BYTES: u64 = 800_000;
+const OTHER_BYTES: u64 = 1_590_000;
 
 /// How large a run may be.
 #[derive(Clone, Copy)]

@@ -1,6 +1,6 @@
 -- Operations without an access, and those with one.
 use Rattle.hart.proofs.Common.{Ram, Access, Acts, Answers, ap, Behind, Bool, Cause, Effect, Err, false, given, Hart}
-use Rattle.hart.proofs.Common.{At, Held, KeepsWords, Operates, seen_in, Stored, ◌==◌}
+use Rattle.hart.proofs.Common.{At, Within, Held, KeepsWords, Operates, seen_in, Stored, ◌==◌}
 use Rattle.hart.proofs.Common.{eq-eqb, IsLive, KeepsLive, ne_eqb, seen_live, slice_index, ◌%◌, ◌≢◌}
 use Rattle.ram.specs.declared.FrameNo.{FrameNo}
 use Rattle.hart.proofs.Common.{if◌then◌else◌, inl, IsAnswer, IsKept, Leaves, length, List, Next, None, Ok, Op, op_by}
@@ -60,6 +60,7 @@ module _ {held held' : Held} {meaning : Sight → Effect} {pc : ℕ} {old new : 
       → Acts held held' meaning (seen_live next frames) pc old new ram ram'
   acts-live Behind frames acts = acts
   acts-live (Stored g part) frames acts = acts-if (slice_index frames (g.0 % 32) == g.0) acts
+  acts-live (Within to) frames acts = acts
   acts-live (At to) frames acts = acts
   acts-live (Stop t) frames acts = acts
 
@@ -78,6 +79,7 @@ pub keeps-live : (next : Next) (frames : List ℕ) (ram ram' : Ram)
 keeps-live Behind frames ram ram' only f live = only f
 keeps-live (Stored g part) frames ram ram' only f live =
     keeps-if frames f g part ram ram' (slice_index frames (g.0 % 32) == g.0) refl live (only f)
+keeps-live (Within to) frames ram ram' only f live = only f
 keeps-live (At to) frames ram ram' only f live = only f
 keeps-live (Stop t) frames ram ram' only f live = only f
 

@@ -50,7 +50,7 @@ pub use Rattle.hart.specs.Runs.{Goes, GoesOn, MovesOn, Point, point_at, point_of
 unfoldable pub use Rattle.hart.specs.Runs.{Reaches, RunsTo}
 pub use Rattle.hart.specs.Sizes.{IsSize}
 pub use Rattle.hart.specs.declared.act.Next.{Next}
-pub use Rattle.hart.specs.declared.act.Next.TheVariants.{At, Behind, Stop, Stored}
+pub use Rattle.hart.specs.declared.act.Next.TheVariants.{At, Behind, Stop, Stored, Within}
 pub use Rattle.hart.specs.declared.operation.Op.{Op}
 pub use Rattle.hart.specs.declared.state.Hart.{Hart}
 pub use Rattle.hart.proofs.Ram.{Ram}

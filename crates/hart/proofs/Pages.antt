@@ -86,9 +86,9 @@ module _ (words words' : List ℕ) (k : ℕ)
   renewed-others first since before j (inr more) =
       others j (λ same. omega (arith, same, more)) ∙ before j (inr (omega (arith, more)))
 
-pub none-checked : (words : List ℕ) (ram : Ram) (f : ℕ) → AreChecked words ram f (replicate 32 false)
+pub none-checked : (words : List ℕ) (ram : Ram) (f : ℕ) → AreChecked words ram f (replicate 16 false)
 none-checked words ram f p below marked =
-    let unmarked : slice_index_or (replicate 32 false) p false ≡ false = get_or-replicate 32 p false false below in
+    let unmarked : slice_index_or (replicate 16 false) p false ≡ false = get_or-replicate 16 p false false below in
     absurd (cc (marked, unmarked))
 
 -- another part than one that is marked anew
@@ -98,8 +98,8 @@ marked-other parts part p mark other marked = sym (get_or-set_other parts part p
 
 -- a part was checked
 pub part-checked : (words words' : List ℕ) (ram : Ram) (f : ℕ) (parts : List Bool) (part : ℕ)
-    → AreNow words' ram f (32 * part) (32 * part + 32)
-    → ((k : ℕ) → (k < 32 * part) ⊎ (32 * part + 32 ≤ k) → slice_index words' k ≡ slice_index words k)
+    → AreNow words' ram f (64 * part) (64 * part + 64)
+    → ((k : ℕ) → (k < 64 * part) ⊎ (64 * part + 64 ≤ k) → slice_index words' k ≡ slice_index words k)
     → AreChecked words ram f parts → AreChecked words' ram f (slice_set parts part true)
 part-checked words words' ram f parts part now others before p below marked k since less = elim (cases_eq p part) [
   | inl same ↦ now k (omega (arith, since, same)) (omega (arith, less, same))
@@ -152,7 +152,7 @@ stays-alone f frames ram ram' g fits other live = elim (cases_eq (g % 32) (f % 3
 ]
 
 pub no_pages : Set
-no_pages = record { frames = replicate 2 0; last = 0; within = omega arith }
+no_pages = record { frames = replicate 4 0; last = 0; within = omega arith }
 
 pub last-set : (sets : List Set) (i : ℕ) (s d : Set) → i < length sets
     → (slice_index_or (slice_set sets i s) i d).last ≡ s.last
@@ -162,7 +162,7 @@ last-set sets i s d within = ap (λ (t : Set). t.last) (get_or-set_same sets i s
 module _ (sets : List Set) (s : Set) (f g : ℕ) {at at' : ℕ} (is : IsPage sets f at) (is' : IsPage sets g at') where
   place-same : g % 32 ≡ f % 32 → at' ≡ at
   place-same same =
-      is' s ∙ subst (λ i. 2 * i + (slice_index_or sets i s).last ≡ at) (sym same) (sym (is s))
+      is' s ∙ subst (λ i. 4 * i + (slice_index_or sets i s).last ≡ at) (sym same) (sym (is s))
 
   place-other : g % 32 ≢ f % 32 → at' ≢ at
   place-other other same =
@@ -194,7 +194,7 @@ placed-known frames sets pages ram f at s p long within is checked before g fits
           let apart = place-other (slice_set sets (f % 32) s) s f g is is' other in
           let page : slice_index_or (slice_set pages at p) at' d ≡ slice_index_or pages at' d =
           get_or-set_other pages at at' p d apart in
-          let there : IsPage sets g at' = λ e. subst (λ (t : Set). at' ≡ 2 * (g % 32) + t.last)
+          let there : IsPage sets g at' = λ e. subst (λ (t : Set). at' ≡ 4 * (g % 32) + t.last)
           (get_or-set_other sets (f % 32) (g % 32) s e other) (is' e) in
           rw page (before g fits (noted-other frames f g other live) at' there d)
     ]

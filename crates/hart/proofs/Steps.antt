@@ -1,16 +1,15 @@
 -- Steps whose accesses a translator serves.
 use Rattle.hart.proofs.Common.{Ram, Access, Acts, allowed, At, Behind, Leaves, Next, pc_after, Stop, Stored, trap_of}
-use Rattle.hart.proofs.Common.{word_in}
-use Rattle.hart.proofs.Common.{ap, cond, false, Held, HoldsInside, inl, inr, IsKept, List, Mapped, memory_of, None}
-use Rattle.hart.proofs.Common.{Option, option_map, page_for, page_in, permits, permitted, refl, slice_get}
-use Rattle.hart.proofs.Common.{slice_get-map, Some, true, walk_page-inside, ℕ, ◌/◌, ◌∙◌, ◌≡◌, act, act_by, act_word}
-use Rattle.hart.proofs.Common.{and_parts, Answers, AreAllowed, arith, Bool, Bytes, bytes_at, Change, changed, Computed}
-use Rattle.hart.proofs.Common.{cycle, cycle_by, Effect, eq-eqb, eqb-true, Err, extend, Fetch, fetched, fetched_by}
-use Rattle.hart.proofs.Common.{Follows, frame_for, given, Hart, HasEffect, IfSome, if◌then◌else◌, Instr, instruction_of}
-use Rattle.hart.proofs.Common.{InstructionPageFault, IsAnswer, IsStep, Load, load_size, LoadMisaligned, Memory, Nothing}
-use Rattle.hart.proofs.Common.{number, Ok, Page, place_in, plus, put_at, put_in, seen, Shows, Sight, slice_index, Store}
-use Rattle.hart.proofs.Common.{store_size, stored, StoreMisaligned, Stores, subst, sym, Trap, trap, walk_page, word_by}
-use Rattle.hart.proofs.Common.{◌%◌, ◌&&◌, ◌-◌, ◌==◌}
+use Rattle.hart.proofs.Common.{Within, word_in, ap, cond, false, Held, HoldsInside, inl, inr, IsKept, List, Mapped}
+use Rattle.hart.proofs.Common.{memory_of, None, Option, option_map, page_for, page_in, permits, permitted, refl}
+use Rattle.hart.proofs.Common.{slice_get, slice_get-map, Some, true, walk_page-inside, ℕ, ◌/◌, ◌∙◌, ◌≡◌, act, act_by}
+use Rattle.hart.proofs.Common.{act_word, and_parts, Answers, AreAllowed, arith, Bool, Bytes, bytes_at, Change, changed}
+use Rattle.hart.proofs.Common.{Computed, cycle, cycle_by, Effect, eq-eqb, eqb-true, Err, extend, Fetch, fetched}
+use Rattle.hart.proofs.Common.{fetched_by, Follows, frame_for, given, Hart, HasEffect, IfSome, if◌then◌else◌, Instr}
+use Rattle.hart.proofs.Common.{instruction_of, InstructionPageFault, IsAnswer, IsStep, Load, load_size, LoadMisaligned}
+use Rattle.hart.proofs.Common.{Memory, Nothing, number, Ok, Page, place_in, plus, put_at, put_in, seen, Shows, Sight}
+use Rattle.hart.proofs.Common.{slice_index, Store, store_size, stored, StoreMisaligned, Stores, subst, sym, Trap, trap}
+use Rattle.hart.proofs.Common.{walk_page, word_by, ◌%◌, ◌&&◌, ◌-◌, ◌==◌}
 use Rattle.hart.proofs.ChangeLemmas.{stored-entry, cycle-stores, Alike, load-same, store-same}
 use Rattle.unixmodel.specs.declared.instr.Instr.TheVariants as instr
 
@@ -178,6 +177,8 @@ leaves-effect : (effect : Effect) (at : ℕ) (o : Option ℕ) (answers : Answers
 leaves-effect (Ok d) at o answers Behind pc old hart new ram ram' h a =
     (refl, a.0 ∙ h.1, a.1 ∙ h.2, a.2 ∙ h.3, h.4 ∙ sym (stored-fetch ram at o answers d.change))
 leaves-effect (Ok d) at o answers (Stored f part) pc old hart new ram ram' h a =
+    (refl, a.0 ∙ h.1, a.1 ∙ h.2, a.2 ∙ h.3, h.4 ∙ sym (stored-fetch ram at o answers d.change))
+leaves-effect (Ok d) at o answers (Within to) pc old hart new ram ram' h a =
     (refl, a.0 ∙ h.1, a.1 ∙ h.2, a.2 ∙ h.3, h.4 ∙ sym (stored-fetch ram at o answers d.change))
 leaves-effect (Ok d) at o answers (At to) pc old hart new ram ram' h a =
     (refl, a.0 ∙ h.1, a.1 ∙ h.2, a.2 ∙ h.3, h.4 ∙ sym (stored-fetch ram at o answers d.change))

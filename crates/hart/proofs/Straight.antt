@@ -8,7 +8,7 @@ use Rattle.hart.proofs.Common.{trap, trap_of, walk_page-inside, word_by, word_in
 use Rattle.hart.proofs.Common.{GoesOn, IsOp, number, Op, op_by, pc_at, plus, point_of, slice_index_or, slice_range}
 use Rattle.hart.proofs.Common.{StaysWhole, word_of, ◌%◌, ◌*◌, ◌+◌, ◌-◌, ◌<◌, ◌^◌, ◌≤◌, ◌==◌, false, cases_lt, get_or}
 use Rattle.hart.proofs.Common.{length, ne_eqb, take, IsBehind, IsClear, IsFree, IsPast, is_stop, At, IfNone, IfSome}
-use Rattle.hart.proofs.Common.{goes_to, MovesOn, Stop, Stored}
+use Rattle.hart.proofs.Common.{goes_to, MovesOn, Stop, Stored, Within}
 use Rattle.std.proofs.lemmas.List.Folds.{list_any_more}
 use Rattle.sv39.proofs.Placed.{coherent-kept, shows-coherent}
 use Rattle.hart.proofs.ChangeLemmas.{cycle-only, cycle-stores}
@@ -229,6 +229,7 @@ stops-there _ some = absurd (cc some)
 pub moves-some : (next : Next) {words done : ℕ} → MovesOn words done next → trap_of next ≡ None → 0 < words → 0 < done
 moves-some Behind moves none more = rw moves more
 moves-some (Stored g part) moves none more = moves
+moves-some (Within to) moves none more = moves
 moves-some (At to) moves none more = moves
 moves-some (Stop t) moves none more = absurd (cc none)
 

@@ -10,13 +10,15 @@ use Rattle.unixmodel.specs.Numbers.{plus}
 use Rattle.unixmodel.specs.Translation.{Held, IsKept}
 use Rattle.hart.specs.Answered.{Answers, AreAllowed, Sight, seen, stored}
 use Rattle.hart.specs.declared.act.Next.{Next}
-use Rattle.hart.specs.declared.act.Next.TheVariants.{At, Behind, Stop, Stored}
+use Rattle.hart.specs.declared.act.Next.TheVariants.{At, Behind, Stop, Stored, Within}
 use Rattle.hart.specs.declared.state.Hart.{Hart}
+use Rattle.hart.specs.Stops.{pc_at}
 
 -- the trap that was raised
 abbrev pub trap_of : Next → Option Trap
 trap_of Behind = None
 trap_of (Stored f part) = None
+trap_of (Within word) = None
 trap_of (At target) = None
 trap_of (Stop t) = Some t
 
@@ -24,6 +26,7 @@ trap_of (Stop t) = Some t
 abbrev pub pc_after : Next → ℕ → ℕ
 pc_after Behind pc = plus pc 4
 pc_after (Stored f part) pc = plus pc 4
+pc_after (Within word) pc = pc_at word.base word.index
 pc_after (At target) pc = target
 pc_after (Stop t) pc = pc
 
@@ -31,6 +34,7 @@ pc_after (Stop t) pc = pc
 abbrev pub goes_to : ℕ → Next → ℕ
 goes_to pc Behind = pc
 goes_to pc (Stored f part) = pc
+goes_to pc (Within word) = pc_at word.base word.index
 goes_to pc (At target) = target
 goes_to pc (Stop t) = pc
 
@@ -38,6 +42,7 @@ goes_to pc (Stop t) = pc
 abbrev pub part_of : Next → Option ℕ
 part_of Behind = None
 part_of (Stored f part) = Some part
+part_of (Within word) = None
 part_of (At target) = None
 part_of (Stop t) = None
 
@@ -45,6 +50,7 @@ part_of (Stop t) = None
 abbrev pub store_of : Next → Option (FrameNo × ℕ)
 store_of Behind = None
 store_of (Stored f part) = Some (f, part)
+store_of (Within word) = None
 store_of (At target) = None
 store_of (Stop t) = None
 
@@ -52,6 +58,7 @@ store_of (Stop t) = None
 abbrev pub seen_in : Next → ℕ → Next
 seen_in Behind f = Behind
 seen_in (Stored g part) f = if g.0 == f then Stored g part else Behind
+seen_in (Within word) f = Within word
 seen_in (At target) f = At target
 seen_in (Stop t) f = Stop t
 
@@ -63,12 +70,13 @@ IsLive frames f = slice_index frames (f % 32) ≡ f
 abbrev pub seen_live : Next → List ℕ → Next
 seen_live Behind frames = Behind
 seen_live (Stored g part) frames = if slice_index frames (g.0 % 32) == g.0 then Stored g part else Behind
+seen_live (Within word) frames = Within word
 seen_live (At target) frames = At target
 seen_live (Stop t) frames = Stop t
 
 -- the words of a frame are as they were, except for those of a part that was stored to
 abbrev pub KeepsWords : Next → ℕ → List (List ℕ) → List (List ℕ) → Type 0
-KeepsWords next f ram ram' = (k : ℕ) → (part_of next ≡ Some (k / 32) → ⊥)
+KeepsWords next f ram ram' = (k : ℕ) → (part_of next ≡ Some (k / 64) → ⊥)
     → word_of ram' f (4 * k) 4 ≡ word_of ram f (4 * k) 4
 
 -- the same of each frame whose page is known

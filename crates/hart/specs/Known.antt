@@ -7,7 +7,7 @@ use Rattle.hart.specs.declared.page.Page.{Page}
 
 -- where the page of a frame is that was used last
 abbrev pub IsPage : List Set → ℕ → ℕ → Type 0
-IsPage sets f at = (d : Set) → at ≡ 2 * (f % 32) + (slice_index_or sets (f % 32) d).last
+IsPage sets f at = (d : Set) → at ≡ 4 * (f % 32) + (slice_index_or sets (f % 32) d).last
 
 -- the pages of these frames have their words in all parts that are marked
 abbrev pub AreKnown : List ℕ → List Set → List Page → List (List ℕ) → Type 0

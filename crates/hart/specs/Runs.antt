@@ -11,7 +11,7 @@ use Rattle.hart.specs.Answered.{given}
 use Rattle.hart.specs.Changes.{IsSound, WritesOnly, changed}
 use Rattle.hart.specs.Stops.{IsPast}
 use Rattle.hart.specs.declared.act.Next.{Next}
-use Rattle.hart.specs.declared.act.Next.TheVariants.{At, Behind, Stop, Stored}
+use Rattle.hart.specs.declared.act.Next.TheVariants.{At, Behind, Stop, Stored, Within}
 use Rattle.hart.specs.declared.state.Hart.{Hart}
 
 -- where a program is
@@ -80,5 +80,6 @@ word_in ram f pc = number (bytes_at 4 pc (given ram f))
 abbrev pub MovesOn : ℕ → ℕ → Next → Type 0
 MovesOn words done Behind = done ≡ words
 MovesOn words done (Stored f part) = 0 < done
+MovesOn words done (Within word) = 0 < done
 MovesOn words done (At target) = 0 < done
 MovesOn words done (Stop t) = done < words

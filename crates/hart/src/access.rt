@@ -49,7 +49,7 @@ pub fn is_aligned(address: u64, size: u64) -> bool
     requires { IsSize size }
     ensures is { result ≡ (address % size == 0) }
     ensures fits { IsTrue result → address % 4096 + size ≤ 4096 }
-    ensures part { IsTrue result → address % 128 + size ≤ 128 }
+    ensures part { IsTrue result → address % 256 + size ≤ 256 }
 {
     match size {
         1 => true,

@@ -4,7 +4,7 @@
 ghost use Rattle.std.specs.Prelude.{◌≡◌, ◌%◌, ◌/◌, ◌<◌, ◌+◌, ◌*◌, ◌^◌, ◌==◌, ◌≤◌, ℕ, if◌then◌else◌, Some, None};
 ghost use Rattle.std.specs.Prelude.{slice_index, length, IfSome, MatchResult};
 ghost use Rattle.unixmodel.specs.Meaning.{jump, set_register, write};
-ghost use Rattle.unixmodel.specs.Numbers.{extend};
+ghost use Rattle.unixmodel.specs.Numbers.{extend, plus};
 ghost use Rattle.unixmodel.specs.Translation.{HoldsInside};
 ghost use Rattle.hart.specs.Acts.{Operates, Turns, goes_to, pc_after, seen_live, store_of, trap_of};
 ghost use Rattle.hart.specs.Answered.{load_by, store_by};
@@ -62,12 +62,13 @@ impl Aligned {
     }
 }
 
-/// Where a hart goes on: at the next instruction, also after a store to a part of a frame, or at an address, or
-/// nowhere, since a trap was raised.
+/// Where a hart goes on: at the next instruction, also after a store to a part of a frame, or at a word of the same
+/// page, or at an address, or nowhere, since a trap was raised.
 #[derive(Clone, Copy)]
 pub enum Next {
     Behind,
     Stored(FrameNo, Part),
+    Within(InPage),
     At(Aligned),
     Stop(Trap),
 }
@@ -82,6 +83,7 @@ impl Next {
         match self {
             Next::Behind => Ok(pc.wrapping_add(4)),
             Next::Stored(_, _) => Ok(pc.wrapping_add(4)),
+            Next::Within(to) => Ok(to.address()),
             Next::At(to) => Ok(to.address()),
             Next::Stop(trap) => Err(trap),
         }
@@ -101,6 +103,7 @@ impl Next {
                     Next::Behind
                 }
             }
+            Next::Within(to) => Next::Within(to),
             Next::At(to) => Next::At(to),
             Next::Stop(trap) => Next::Stop(trap),
         }
@@ -114,6 +117,7 @@ impl Next {
         match *self {
             Next::Behind => None,
             Next::Stored(f, part) => Some((f, part)),
+            Next::Within(_) => None,
             Next::At(_) => None,
             Next::Stop(_) => None,
         }
@@ -127,6 +131,7 @@ impl Next {
         match *self {
             Next::Behind => None,
             Next::Stored(_, _) => None,
+            Next::Within(_) => None,
             Next::At(_) => None,
             Next::Stop(trap) => Some(trap),
         }
@@ -140,6 +145,7 @@ impl Next {
         match *self {
             Next::Behind => pc,
             Next::Stored(_, _) => pc,
+            Next::Within(to) => to.address(),
             Next::At(to) => to.address(),
             Next::Stop(_) => pc,
         }
@@ -212,6 +218,18 @@ impl Hart {
         }
     }
 
+    // One to an offset from the pc.
+    #[inline(always)]
+    fn go_by(&self, pc: InPage, imm: u32) -> Next
+        ensures { Turns (jump self.now.registers (pc_at pc.base pc.index) 0
+            (plus (pc_at pc.base pc.index) (extend 32 imm))) result (pc_at pc.base pc.index) self.now self.now }
+    {
+        match pc.word_by(imm) {
+            Some(to) => Next::Within(to),
+            None => self.go(pc.address().wrapping_add(bits::extend_u32(imm))),
+        }
+    }
+
     // One that leaves the address of the next instruction.
     #[inline(always)]
     fn link(&mut self, rd: Target, pc: u64, target: u64) -> Next
@@ -224,6 +242,26 @@ impl Hart {
         Next::At(to)
     }
 
+    // One to an offset from the pc that leaves the address of the next instruction.
+    #[inline(always)]
+    fn link_by(&mut self, rd: Target, pc: InPage, imm: u32) -> Next
+        ensures { Turns (jump self.old.registers (pc_at pc.base pc.index) rd
+            (plus (pc_at pc.base pc.index) (extend 32 imm))) result (pc_at pc.base pc.index) self.old self.new }
+    {
+        let after = pc.address().wrapping_add(4);
+        match pc.word_by(imm) {
+            Some(to) => {
+                self.write(rd, after);
+                Next::Within(to)
+            }
+            None => self.link(
+                rd,
+                pc.address(),
+                pc.address().wrapping_add(bits::extend_u32(imm)),
+            ),
+        }
+    }
+
     // Only a branch that is taken can have a wrong target.
     #[inline(always)]
     fn go_if(&self, op: BranchOp, rs1: Reg, rs2: Reg, pc: InPage, imm: u32) -> Next
@@ -233,7 +271,7 @@ impl Hart {
         if !alu::is_taken(op, self.read(rs1), self.read(rs2)) {
             return Next::Behind;
         }
-        self.go(pc.address().wrapping_add(bits::extend_u32(imm)))
+        self.go_by(pc, imm)
     }
 
     // Reads memory into rd. A misaligned address is reported before a page fault.
@@ -321,12 +359,8 @@ impl Hart {
         match *op {
             Op::Lui { rd, imm } => self.put(rd, bits::extend_u32(imm)),
             Op::Auipc { rd, imm } => self.put(rd, pc.address().wrapping_add(bits::extend_u32(imm))),
-            Op::Jal { rd, imm } => self.link(
-                rd,
-                pc.address(),
-                pc.address().wrapping_add(bits::extend_u32(imm)),
-            ),
-            Op::J { imm } => self.go(pc.address().wrapping_add(bits::extend_u32(imm))),
+            Op::Jal { rd, imm } => self.link_by(rd, pc, imm),
+            Op::J { imm } => self.go_by(pc, imm),
             Op::Jalr { rd, rs1, imm } => self.link(rd, pc.address(), self.offset(rs1, imm) / 2 * 2),
             Op::Jr { rs1, imm } => self.go(self.offset(rs1, imm) / 2 * 2),
             Op::Beq { rs1, rs2, imm } => self.go_if(BranchOp::Beq, rs1, rs2, pc, imm),

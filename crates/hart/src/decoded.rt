@@ -4,7 +4,7 @@ ghost use Rattle.hart.specs.Acts.{IsLive};
 ghost use Rattle.hart.specs.Known.{AreKnown, IsPage};
 
 use crate::in_page::PART;
-use crate::live::{Live, SETS, Set};
+use crate::live::{Live, SETS, Set, WAYS};
 use crate::operation::Op;
 use crate::page::{Page, WORDS};
 use std::alloc::{AllocError, Global};
@@ -21,10 +21,10 @@ impl Pages {
     /// Where a frame's page is, which is known afterwards.
     #[inline(always)]
     pub fn place(&mut self, frame: u32, live: &mut Live) -> usize
-        requires many { vec_len self.old.all ≡ 64 }
+        requires many { vec_len self.old.all ≡ 128 }
         requires frame { frame < 4294967295 }
-        ensures many { vec_len self.new.all ≡ 64 }
-        ensures within { result < 64 }
+        ensures many { vec_len self.new.all ≡ 128 }
+        ensures within { result < 128 }
         ensures page { IsPage self.new.sets frame result }
         ensures live { IsLive live.new.frames frame }
         ensures known { (ram : List (List ℕ)) → AreKnown live.old.frames self.old.sets self.old.all.items ram →
@@ -32,18 +32,18 @@ impl Pages {
     {
         let set = (frame % 32) as usize;
         if live.has(frame) {
-            return 2 * set + self.sets[set].last;
+            return WAYS * set + self.sets[set].last;
         }
         live.note(frame);
         self.sets[set].choose(frame);
-        let at = 2 * set + self.sets[set].last;
+        let at = WAYS * set + self.sets[set].last;
         self.all[at].forget();
         at
     }
 }
 
-/// Decoded words of as many frames as fit: each frame has one of the two pages of its number modulo 32, where a word is
-/// decoded anew if there is another one. In contracts it is nothing, as what it holds is not visible.
+/// Decoded words of as many frames as fit: each frame has one of the four pages of its number modulo 32, where a word
+/// is decoded anew if there is another one. In contracts it is nothing, as what it holds is not visible.
 #[derive(Drop)]
 pub struct Decoded {
     pub(crate) pages: Pages,
@@ -56,14 +56,14 @@ impl Model for Decoded {
 
     ghost view = { λ d. tt };
 
-    ghost invariant = { λ d. vec_len d.pages.all ≡ 64 };
+    ghost invariant = { λ d. vec_len d.pages.all ≡ 128 };
 }
 
 impl Decoded {
-    /// With nothing decoded. It takes 768 KiB of the host, and asks for no more later.
+    /// With nothing decoded. It takes 1.5 MiB of the host, and asks for no more later.
     pub fn new(alloc: Global) -> Result<Decoded, AllocError> {
-        let mut all = Vec::with_capacity(alloc, 2 * SETS)?;
-        for _ in 0..2 * SETS {
+        let mut all = Vec::with_capacity(alloc, WAYS * SETS)?;
+        for _ in 0..WAYS * SETS {
             // the word 0 is no instruction
             all.push(Page {
                 words: [0; WORDS],
@@ -72,7 +72,7 @@ impl Decoded {
             })?;
         }
         let none = Set {
-            frames: [0; 2],
+            frames: [0; WAYS],
             last: 0,
         };
         Ok(Decoded {

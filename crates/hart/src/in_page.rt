@@ -1,11 +1,13 @@
 //! Addresses by their page and their index in it.
-ghost use Rattle.std.specs.Prelude.{◌≡◌, ◌%◌, ◌/◌, ◌<◌};
+ghost use Rattle.std.specs.Prelude.{◌≡◌, ◌%◌, ◌/◌, ◌<◌, IfSome};
+ghost use Rattle.unixmodel.specs.Numbers.{extend, plus};
 ghost use Rattle.hart.specs.Stops.{pc_at};
 
+use crate::bits;
 use std::marker::Model;
 
 /// How many words a part of a page has.
-pub const PART: usize = 32;
+pub const PART: usize = 64;
 
 /// A part of a page, by its number.
 #[derive(Clone, Copy)]
@@ -20,7 +22,7 @@ impl Model for Part {
 
     ghost view = { λ p. p.number };
 
-    ghost invariant = { λ p. p.number < 32 };
+    ghost invariant = { λ p. p.number < 16 };
 
     ghost inverse = { λ n. record { number = n } };
 }
@@ -29,10 +31,10 @@ impl Part {
     /// That of an address.
     #[inline(always)]
     pub fn of(address: u64) -> Part
-        ensures { result ≡ address % 4096 / 128 }
+        ensures { result ≡ address % 4096 / 256 }
     {
         Part {
-            number: (address % 4096 / 128) as usize,
+            number: (address % 4096 / 256) as usize,
         }
     }
 
@@ -40,7 +42,7 @@ impl Part {
     #[inline(always)]
     pub fn of_word(k: usize) -> Part
         requires { k < 1024 }
-        ensures { result ≡ k / 32 }
+        ensures { result ≡ k / 64 }
     {
         Part { number: k / PART }
     }
@@ -49,7 +51,7 @@ impl Part {
     #[inline(always)]
     pub fn number(self) -> usize
         ensures is { result ≡ self }
-        ensures within { result < 32 }
+        ensures within { result < 16 }
     {
         self.number
     }
@@ -63,6 +65,7 @@ pub struct InPage {
     /// The index of the word there.
     pub index: usize,
     ghost inside: { index < 1024 },
+    ghost start: { base % 4096 ≡ 0 },
 }
 
 impl InPage {
@@ -81,8 +84,24 @@ impl InPage {
     /// The number.
     #[inline(always)]
     pub fn address(self) -> u64
-        ensures { result ≡ pc_at self.base self.index }
+        ensures is { result ≡ pc_at self.base self.index }
+        ensures aligned { result % 4 ≡ 0 }
     {
         self.base.wrapping_add(4 * self.index as u64)
+    }
+
+    /// The word that lies at an offset from this one, if it is in the same page.
+    #[inline(always)]
+    pub fn word_by(self, imm: u32) -> Option<InPage>
+        ensures { IfSome result (λ to. pc_at to.base to.index ≡ plus (pc_at self.base self.index) (extend 32 imm)) }
+    {
+        let place = (4 * self.index as u64).wrapping_add(bits::extend_u32(imm));
+        if place % 4 != 0 || place >= 4096 {
+            return None;
+        }
+        Some(InPage {
+            base: self.base,
+            index: (place / 4) as usize,
+        })
     }
 }

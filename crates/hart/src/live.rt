@@ -1,8 +1,11 @@
 //! Which frames have pages.
 ghost use Rattle.std.specs.Prelude.{◌≡◌, ◌<◌, ◌%◌, ◌==◌, replicate, slice_index, slice_set};
 
-/// How many sets of two frames have their words decoded.
+/// How many sets of frames have their words decoded.
 pub const SETS: usize = 32;
+
+/// How many pages a set has.
+pub const WAYS: usize = 4;
 
 /// Frames of which pages are known in a run: of each number modulo 32 at most one, that of the page used last.
 #[derive(Drop)]
@@ -52,20 +55,21 @@ impl Live {
 #[derive(Clone, Copy)]
 pub struct Set {
     /// The frame of each page.
-    pub frames: [u32; 2],
+    pub frames: [u32; WAYS],
     /// Which page was used last.
     pub last: usize,
-    ghost within: { last < 2 },
+    ghost within: { last < 4 },
 }
 
 impl Set {
-    /// Makes the page for a frame the last: the one that it has, or else the one that was not used last, which it then
-    /// gets.
+    /// Makes the page for a frame the last: the one that it has, or else the one after the last, which it then gets.
     #[inline(always)]
     pub fn choose(&mut self, frame: u32) {
-        if self.frames[self.last] != frame {
-            self.last = 1 - self.last;
-            self.frames[self.last] = frame;
+        if let Some(way) = self.frames.iter().position(|held| *held == frame) {
+            self.last = way;
+            return;
         }
+        self.last = (self.last + 1) % WAYS;
+        self.frames[self.last] = frame;
     }
 }

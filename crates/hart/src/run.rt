@@ -66,6 +66,23 @@ fn goes_to_word<S: Stops>(stops: &S, base: u64, to: Aligned, known: Known) -> Op
     Some((index, free))
 }
 
+// The same of a word of a page, if it is that page.
+#[inline(always)]
+fn goes_to_index<S: Stops>(stops: &S, base: u64, to: InPage, known: Known) -> Option<(usize, Known)>
+    requires page { base % 4096 ≡ 0 }
+    requires known { AreFree (S.addresses stops.now) base known }
+    ensures at { IfSome result (λ r. (r.0 < 1024) × (pc_at base r.0 ≡ pc_at to.base to.index)) }
+    ensures past { IfSome result (λ r. is_stop (S.addresses stops.now) (pc_at to.base to.index) ≡ false) }
+    ensures free { IfSome result (λ r. AreFree (S.addresses stops.now) base r.1) }
+    ensures inside { IfSome result (λ r. (r.1.here.from ≤ r.0) × (r.0 < r.1.here.to)) }
+{
+    if to.base != base {
+        return None;
+    }
+    let free = stops.free_at(base, to.index, known)?;
+    Some((to.index, free))
+}
+
 // The index of the word of the page at `base` at which a run goes on, and stretches without a stop, if it is in the
 // page and at no stop: it is in the first of them. If nothing jumped this is word `k`.
 #[inline(always)]
@@ -88,6 +105,7 @@ fn onward<S: Stops>(
     match *next {
         Next::Behind => within(k, known),
         Next::Stored(_, _) => within(k, known),
+        Next::Within(to) => goes_to_index(stops, base, to, known),
         Next::At(to) => goes_to_word(stops, base, to, known),
         Next::Stop(_) => None,
     }
@@ -119,6 +137,7 @@ impl Hart {
     ) -> Next
         requires inside { HoldsInside (T.held trans.old) ram.old }
         requires place { k < 1024 }
+        requires page { base % 4096 ≡ 0 }
         ensures acts { Acts (T.held trans.old) (T.held trans.new)
             (word_by (instruction_of (slice_index page.now.words k)) self.old.registers (pc_at base k))
             result (pc_at base k) self.old self.new ram.old ram.new }
@@ -143,7 +162,7 @@ impl Hart {
         trans: &mut T,
     ) -> (usize, Next)
         requires inside { HoldsInside (T.held trans.old) ram.old }
-        requires places { (from ≤ end) × (end ≤ 1024) }
+        requires places { (from < end) × (end ≤ 1024) }
         requires page { base % 4096 ≡ 0 }
         requires live { IsLive live.now.frames f.0 }
         requires now { AreNow page.now.words ram.old f.0 from end }
@@ -158,27 +177,31 @@ impl Hart {
         ensures within { from + result.0 ≤ end }
         ensures moves { MovesOn (end - from) result.0 result.1 }
     {
-        for k in from..end {
+        let mut k = from;
+        'word: loop {
             ram.frames_are_whole();
             match self.obey::<T, S>(page, live, base, k, ram, trans) {
                 Next::Behind => {}
                 Next::Stored(g, part) => return (k - from + 1, Next::Stored(g, part)),
+                Next::Within(to) => return (k - from + 1, Next::Within(to)),
                 Next::At(to) => return (k - from + 1, Next::At(to)),
                 Next::Stop(trap) => return (k - from, Next::Stop(trap)),
             }
+            k += 1;
+            if k == end {
+                return (end - from, Next::Behind);
+            }
         }
-        (end - from, Next::Behind)
     }
 
-    // Does at most `count` operations of the page of the pc, which is at `base` and has frame `f`, until a jump leaves
-    // the page, up to a stop. Returns how many are left, and a trap. What is known of pages still holds.
+    // Does at most `count` operations of the page of the pc, which has frame `f`, until a jump leaves the page, up to a
+    // stop. Returns how many are left, and a trap. What is known of pages still holds.
     #[inline(never)]
     fn run_page<T: Translate, S: Stops>(
         &mut self,
         page: &mut Page,
         f: FrameNo,
         live: &mut Live,
-        base: u64,
         ram: &mut Ram,
         trans: &mut T,
         count: u32,
@@ -186,7 +209,6 @@ impl Hart {
     ) -> (u32, Option<Trap>)
         requires inside { HoldsInside (T.held trans.old) ram.old }
         requires frame { f.0 < length ram.old }
-        requires start { base ≡ self.old.pc / 4096 * 4096 }
         requires some { 0 < count }
         requires live { IsLive live.old.frames f.0 }
         requires checked { AreChecked page.old.words ram.old f.0 page.old.parts }
@@ -202,6 +224,8 @@ impl Hart {
         ensures behind { IfSome result.1
             (λ t. IsBehind (S.addresses stops.now) (count - result.0) self.old.pc self.new.pc) }
     {
+        // worked out here, where the compiler then knows that its low bits are 0
+        let base = self.pc / 4096 * 4096;
         let mut k = (self.pc % 4096 / 4) as usize;
         let mut free = Known {
             here: Stretch {
@@ -214,7 +238,7 @@ impl Hart {
         let mut limit = k + count as usize;
         while k < limit {
             let known = page.reach(ram, f, k);
-            let end = first_of(k, limit, first_of(k, free.here.to, known));
+            let end = first_of(k, limit, stops.free_to(free, known));
             let (done, next) = self.straight::<T, S>(page, f, live, base, k, end, ram, trans);
             page.heed(f, &next, live);
             let at = k + done;
@@ -266,8 +290,8 @@ impl Hart {
         stops: &S,
     ) -> (u32, Option<Trap>)
         requires inside { HoldsInside (T.held trans.old) ram.old }
-        requires many { vec_len pages.old.all ≡ 64 }
-        ensures many { vec_len pages.new.all ≡ 64 }
+        requires many { vec_len pages.old.all ≡ 128 }
+        ensures many { vec_len pages.new.all ≡ 128 }
         ensures goes { (mapping : List Mapped)
             → GoesOn (T.held trans.old) (T.held trans.new) self.old.root.0 mapping (S.addresses stops.now)
             (point_of self.old ram.old) (point_of self.new ram.new) result.0 result.1 }
@@ -288,18 +312,9 @@ impl Hart {
                 return (count - left, Some(trap));
             };
             ram.frames_are_whole();
-            let base = self.pc / 4096 * 4096;
             let at = pages.place(f.0, &mut live);
-            let (rest, stopped) = self.run_page(
-                &mut pages.all[at],
-                f,
-                &mut live,
-                base,
-                ram,
-                trans,
-                left,
-                stops,
-            );
+            let page = &mut pages.all[at];
+            let (rest, stopped) = self.run_page(page, f, &mut live, ram, trans, left, stops);
             left = rest;
             if let Some(trap) = stopped {
                 return (count - left, Some(trap));

@@ -1,6 +1,6 @@
 //! Addresses at which a run of many instructions stops.
 ghost use Rattle.std.specs.Prelude.{ℕ, IfSome, IsTrue, List, is_some, not, ◌≡◌, ◌%◌, ◌<◌, ◌≤◌, ◌↔◌};
-ghost use Rattle.hart.specs.Stops.{AreFree, IsClear, is_stop, pc_at};
+ghost use Rattle.hart.specs.Stops.{AreFree, IsClear, IsFree, is_stop, pc_at};
 
 /// Words of a page, from one up to another, which is not one of them.
 #[derive(Clone, Copy)]
@@ -59,6 +59,13 @@ pub trait Stops {
         ensures within { (k < result) × (result ≤ 1024) }
         ensures clear { IsClear (addresses self.now) base k result };
 
+    /// An index up to which the first of some stretches reaches, or `end` if that comes first.
+    fn free_to(&self, known: Known, end: usize) -> usize
+        ensures within { result ≤ end }
+        ensures after { (k : ℕ) → k < known.here.to → k < end → k < result }
+        ensures free { (base : ℕ) → AreFree (addresses self.now) base known →
+            IsFree (addresses self.now) base known.here.from result };
+
     /// Stretches of the page at `base` without any of them, word `index` in the first; none if this word is at one of
     /// them. What is known of such words spares a search.
     fn free_at(&self, base: u64, index: usize, known: Known) -> Option<Known>
@@ -87,6 +94,11 @@ impl Stops for NoStops {
     #[inline(always)]
     fn clear_to(&self, _base: u64, _k: usize) -> usize {
         1024
+    }
+
+    #[inline(always)]
+    fn free_to(&self, _known: Known, end: usize) -> usize {
+        end
     }
 
     #[inline(always)]
@@ -133,6 +145,11 @@ impl Stops for Breakpoints<'_> {
             end = clear_of(*address, base, k, end);
         }
         end
+    }
+
+    #[inline(always)]
+    fn free_to(&self, known: Known, end: usize) -> usize {
+        end.min(known.here.to)
     }
 
     #[inline]

@@ -147,6 +147,7 @@ fn name_of<'a>(job: &Job<'a>) -> Option<&'a str> {
         Job::Run(words) => Some(words.script),
         Job::Trace(words) => Some(words.run.script),
         Job::Explore(words) => words.script,
+        Job::Gdb(words) => words.script,
         Job::Mkfs(words) => Some(words.manifest),
         Job::Asm(words) => Some(words.text),
         _ => None,
@@ -221,9 +222,9 @@ fn particular<H: Host>(
     }
 }
 
-// Why the system refused the file of a line. Of standard input the line says so itself.
+// Why the system refused the file of a line. Of standard input the line says so itself; standard output is no file.
 fn refusal(alloc: Global, line: &str, why: Why) -> Result<Option<String>, AllocError> {
-    if line.starts_with("cannot read standard input") {
+    if line.starts_with("cannot read standard input") || line == "cannot write standard output" {
         return Ok(None);
     }
     let name = match (

@@ -8,15 +8,48 @@ use machine::{Machine, ProcessState};
 use sv39::Translate;
 use unixmodel::limits::PROCESSES;
 
+/// An end that a process came to.
+#[derive(Clone, Copy)]
+pub(crate) struct End {
+    pub how: How,
+    pub status: i32,
+    pub killer: Option<u32>,
+}
+
+impl End {
+    /// It faulted.
+    pub(crate) const FAULT: End = End {
+        how: How::Fault,
+        status: -1,
+        killer: None,
+    };
+
+    /// It called exit.
+    pub(crate) fn exit(status: i32) -> End {
+        End {
+            how: How::Exit,
+            status,
+            killer: None,
+        }
+    }
+
+    /// This process killed it.
+    pub(crate) fn killed_by(killer: u32) -> End {
+        End {
+            how: How::Killed,
+            status: -1,
+            killer: Some(killer),
+        }
+    }
+}
+
 /// A process that ended, at the event of this number.
 #[derive(Clone, Copy)]
 pub(crate) struct Ended {
     pub at: u64,
     pub who: Who,
     pub parent: u32,
-    pub how: How,
-    pub status: i32,
-    pub killer: Option<u32>,
+    pub end: End,
 }
 
 /// A process that is marked to be killed, and who marked it first.

@@ -172,9 +172,9 @@ fn ended_row(ended: &Ended) -> EndedRow<'_> {
         pid: ended.who.pid,
         program: ended.who.program(),
         parent: ended.parent,
-        how: ended.how,
-        status: ended.status,
-        killer: ended.killer,
+        how: ended.end.how,
+        status: ended.end.status,
+        killer: ended.end.killer,
     }
 }
 

@@ -3,7 +3,7 @@ ghost use Rattle.std.specs.Prelude.{[], ◌+◌, ◌-◌, ◌^◌, ◌≡◌, Er
 ghost use Rattle.reports.specs.Watching.{counted, sees_calls};
 
 use crate::by_pid::ByPid;
-use crate::ended::{Ended, Kill, Kills, has_ended};
+use crate::ended::{End, Ended, Kill, Kills, has_ended};
 use crate::last_calls::LastCalls;
 use crate::memory::MemoryReport;
 use crate::registers::{Found, RegisterReport};
@@ -13,7 +13,7 @@ use crate::who::{Name, Who};
 use addresses::Name as PlaceName;
 use arrayvec::ArrayVec;
 use blockdev::BlockDev;
-use jsonrows::{How, int};
+use jsonrows::int;
 use machine::{Halt, Machine, Seen};
 use next_fault::{Fault, Named, fault_of, word};
 use std::alloc::{AllocError, Global};
@@ -423,21 +423,12 @@ impl Reporter {
     }
 
     // The process with a pid ended.
-    fn note_end<D: BlockDev, T: Translate>(
-        &mut self,
-        machine: &Machine<D, T>,
-        pid: u32,
-        how: How,
-        status: i32,
-        killer: Option<u32>,
-    ) {
+    fn note_end<D: BlockDev, T: Translate>(&mut self, machine: &Machine<D, T>, pid: u32, end: End) {
         let ended = Ended {
             at: self.at(),
             who: self.who(pid),
             parent: parent_of(machine, pid),
-            how,
-            status,
-            killer,
+            end,
         };
         self.keep_ended(ended);
     }
@@ -471,7 +462,7 @@ impl Reporter {
             calls: self.last_calls(pid),
         };
         self.keep_fault(fallen);
-        self.note_end(machine, pid, How::Fault, -1, None);
+        self.note_end(machine, pid, End::FAULT);
     }
 
     // The running process marked another to be killed, if its call wasn't refused.
@@ -480,14 +471,14 @@ impl Reporter {
         if answer(machine, killer).is_some() && !has_ended(machine, pid) {
             self.kills.mark(Kill { pid, killer });
         } else if pid == killer && has_ended(machine, pid) {
-            self.note_end(machine, pid, How::Killed, -1, Some(killer));
+            self.note_end(machine, pid, End::killed_by(killer));
         }
     }
 
     // A process that was marked to be killed may have ended.
     fn note_killed<D: BlockDev, T: Translate>(&mut self, machine: &Machine<D, T>) {
         if let Some(Kill { pid, killer }) = self.kills.take_ended(machine) {
-            self.note_end(machine, pid, How::Killed, -1, Some(killer));
+            self.note_end(machine, pid, End::killed_by(killer));
         }
     }
 
@@ -589,7 +580,7 @@ impl Reporter {
         match effect {
             Effect::Other => {}
             Effect::Forks => self.note_child(machine),
-            Effect::Exits(status) => self.note_end(machine, pid, How::Exit, status, None),
+            Effect::Exits(status) => self.note_end(machine, pid, End::exit(status)),
             Effect::Kills(victim) => self.note_kill(machine, victim),
             Effect::Execs(name) => self.note_exec(machine, name),
         }

@@ -19,7 +19,7 @@ const T0_STACK: u32 = 0x0000_22b7;
 
 const T0_END: u32 = 0x0000_32b7;
 
-static ROWS: [Row; 27] = [
+static ROWS: [Row; 28] = [
     (
         "jalr zero, 2(zero)",
         &[0x0020_0067],
@@ -92,6 +92,15 @@ static ROWS: [Row; 27] = [
             Cause::IllegalInstruction,
             4,
             "illegal instruction 0x0 at pc 0x4 (zeros are no code)",
+        )),
+    ),
+    (
+        "a half of zeros",
+        &[0x1141_0000],
+        Some((
+            Cause::IllegalInstruction,
+            0,
+            "illegal instruction 0x11410000 at pc 0x0 (zeros are no code)",
         )),
     ),
     (
@@ -278,16 +287,30 @@ fn faults_are_told_before_they_come(rt: HostRuntime) {
     }
 }
 
-// jalr zero, 6(zero), into the second half of two compressed instructions.
-const JUMP_TO_COMPRESSED: &[u32] = &[0x0060_0067, 0xe406_1141];
+/// The name of a jump to the middle of a word, its words, where it goes, and the text of its fault.
+type Jump = (&'static str, &'static [u32], u64, &'static str);
+
+// Into the second half of two compressed instructions, and just before them.
+static JUMPS: [Jump; 2] = [
+    (
+        "jalr zero, 6(zero)",
+        &[0x0060_0067, 0xe406_1141],
+        6,
+        "jump to 0x6 at pc 0x0: no multiple of 4 (compressed code? compile with -march=rv64im)",
+    ),
+    (
+        "jalr zero, 2(zero)",
+        &[0x0020_0067, 0xe406_1141],
+        2,
+        "jump to 0x2 at pc 0x0: no multiple of 4 (compressed code? compile with -march=rv64im)",
+    ),
+];
 
 #[test]
 fn a_jump_into_compressed_code_is_named(rt: HostRuntime) {
-    let wanted = (
-        Cause::InstructionMisaligned,
-        6,
-        "jump to 0x6 at pc 0x0: no multiple of 4 (compressed code? compile with -march=rv64im)",
-    );
-    let holds = holds_after(rt.alloc(), JUMP_TO_COMPRESSED, 1, Some(wanted));
-    expect_row(&rt, "jalr zero, 6(zero)", holds);
+    for (name, words, target, text) in &JUMPS {
+        let wanted = (Cause::InstructionMisaligned, *target, *text);
+        let holds = holds_after(rt.alloc(), words, 1, Some(wanted));
+        expect_row(&rt, name, holds);
+    }
 }

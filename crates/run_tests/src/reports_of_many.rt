@@ -4,7 +4,7 @@ use machine::Halt;
 use reports::{Outcome, PlayEnd};
 
 /// Two processes read a pipe whose both ends both have.
-const READERS: &str = "
+pub(crate) const READERS: &str = "
         addi a0, sp, -16
         li a7, 4
         ecall
@@ -72,7 +72,7 @@ killer: li a0, 3
 ";
 
 /// Kills itself.
-const KILLS_ITSELF: &str = "
+pub(crate) const KILLS_ITSELF: &str = "
         li a7, 11
         ecall
         li a7, 6
@@ -135,6 +135,14 @@ const NEGATIVE: &str = "
 again:  j again
 ";
 
+/// Takes 8192 bytes more.
+const LARGER: &str = "
+        li a0, 8192
+        li a7, 12
+        ecall
+again:  j again
+";
+
 // A row of a run of steps alone, of which a report is wanted.
 const REPORTED: Row = Row {
     name: "",
@@ -148,7 +156,7 @@ const REPORTED: Row = Row {
     json: &[],
 };
 
-static ROWS: [Row; 12] = [
+static ROWS: [Row; 15] = [
     Row {
         name: "two processes read a pipe whose both ends both have",
         init: READERS,
@@ -181,7 +189,11 @@ free frames: 55
         init: FAULTS,
         steps: 5000,
         asked: Asked::Json,
-        json: &["  \"more_ended\": 0,\n", "  \"more_faults\": 2\n}"],
+        json: &[
+            "      \"pid\": 67,\n      \"program\": \"/init\",\n",
+            "  \"more_ended\": 0,\n",
+            "  \"more_faults\": 2\n}",
+        ],
         ..REPORTED
     },
     Row {
@@ -204,6 +216,8 @@ free frames: 55
       \"how\": \"killed\",
       \"status\": -1,
       \"killer\": 1
+    }
+  ],
 ",
         ],
         ..REPORTED
@@ -276,6 +290,30 @@ free frames: 46
         ..REPORTED
     },
     Row {
+        name: "bytes of the console that are lost, as a text",
+        outcome: Outcome {
+            halt: Some(Halt::Console),
+            play: None,
+        },
+        text: "\
+report: 100 steps, 0 ticks, 0 keys
+stopped: the console's bytes were not all taken
+pid 1 (/init) runs; parent 0, pc 0x0, 12288 bytes, 9 frames
+free frames: 55
+",
+        ..REPORTED
+    },
+    Row {
+        name: "a machine that takes no events",
+        outcome: Outcome {
+            halt: Some(Halt::Halted),
+            play: None,
+        },
+        asked: Asked::Json,
+        json: &["    \"why\": \"halted\",\n"],
+        ..REPORTED
+    },
+    Row {
         name: "what descriptors are open on",
         init: OPENED,
         text: "\
@@ -316,6 +354,18 @@ free frames: 55
         }
 ",
         ],
+        ..REPORTED
+    },
+    Row {
+        name: "pages with the same marks are one line",
+        init: LARGER,
+        asked: Asked::Pages(1),
+        text: "\
+pid 1: 20480 bytes, 5 pages
+  0x00000000 to 0x00000fff r-x
+  0x00001000 to 0x00001fff ---
+  0x00002000 to 0x00004fff rw-
+",
         ..REPORTED
     },
     Row {

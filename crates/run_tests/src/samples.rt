@@ -181,3 +181,151 @@ pub(crate) const GROWS: &str = "
         li a7, 2
         ecall
 ";
+
+/// Makes files of all types, and names some that it can't open, and some by what it may not read.
+pub(crate) const FILES: &str = "
+        la a0, c
+        li a1, 1
+        li a2, 7
+        li a7, 17
+        ecall
+        la a0, f
+        li a1, 0x601
+        li a7, 15
+        ecall
+        li a0, 0
+        la a1, long
+        li a2, 32
+        li a7, 16
+        ecall
+        li a0, 0
+        li a2, 33
+        ecall
+        li a0, 0
+        addi a1, sp, -32
+        li a7, 8
+        ecall
+        li a0, 0
+        li a7, 5
+        ecall
+        la a0, f
+        la a1, g
+        li a7, 19
+        ecall
+        la a0, f
+        li a7, 18
+        ecall
+        la a0, d
+        li a7, 20
+        ecall
+        la a0, d
+        li a7, 9
+        ecall
+        la a0, g
+        li a1, 0x807
+        li a7, 15
+        ecall
+        la a0, g
+        li a1, 0x400
+        ecall
+        lui a0, 16
+        li a7, 18
+        ecall
+        li a0, 0
+        lui a1, 16
+        li a2, -1
+        li a7, 16
+        ecall
+        li a0, 0
+        li a2, 3
+        ecall
+        lui a0, 16
+        li a7, 4
+        ecall
+        la a0, g
+        li a7, 7
+        ecall
+        la a0, g
+        la t0, long
+        sd t0, -16(sp)
+        addi a1, sp, -16
+        ecall
+        li a0, 0
+        li a7, 2
+        ecall
+c:      .ascii \"c\\0\"
+f:      .ascii \"f\\0\"
+g:      .ascii \"g\\0\"
+d:      .ascii \"d\\0\"
+long:   .ascii \"0123456789abcdef0123456789abcdef0\"
+";
+
+/// Eight children, each of which faults in its own way: at a jump, at a word that is no instruction, at loads and
+/// stores that are not aligned, that have no page or that go to the page below the stack, at a fetch from the stack.
+pub(crate) const KINDS: &str = "
+        la s1, jump
+        li s0, 8
+again:  li a7, 1
+        ecall
+        bne a0, zero, on
+        jalr zero, 0(s1)
+on:     li a0, 0
+        li a7, 3
+        ecall
+        addi s1, s1, 8
+        addi s0, s0, -1
+        bne s0, zero, again
+        li a0, 0
+        li a7, 2
+        ecall
+jump:   jalr zero, 2(zero)
+        .word 0
+        .word 0
+        .word 0
+        lh t0, 1(zero)
+        .word 0
+        sh zero, 1(zero)
+        .word 0
+        lui t0, 16
+        lb t0, 0(t0)
+        lui t0, 1
+        lb t0, 0(t0)
+        lui t0, 1
+        sb zero, 0(t0)
+        lui t0, 2
+        jalr zero, 0(t0)
+";
+
+/// The first child kills the second, which the parent killed before it had a turn; all have the console open.
+pub(crate) const TWICE: &str = "
+        li t6, 5
+        la a0, console
+        li a1, 1
+        li a7, 15
+        ecall
+        li a7, 1
+        ecall
+        beq a0, zero, killer
+        li a7, 1
+        ecall
+        beq a0, zero, victim
+        li a0, 3
+        li a7, 6
+        ecall
+        li a0, 0
+        li a7, 3
+        ecall
+        li a0, 0
+        ecall
+        li a0, 0
+        li a7, 2
+        ecall
+victim: j victim
+killer: li a0, 3
+        li a7, 6
+        ecall
+        li a0, 0
+        li a7, 2
+        ecall
+console: .ascii \"console\\0\"
+";

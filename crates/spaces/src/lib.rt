@@ -243,7 +243,7 @@ fn nothing_decoded(alloc: Global) -> Result<Decoded, NoMemory> {
 impl<T: Translate> Spaces<T> {
     /// No spaces over a memory; the hart's registers are 0. The translator is fenced: it may hold anything.
     ///
-    /// It takes 2 bytes a frame of the host, and 768 KiB for decoded words: `NoMemory` where it has none for them.
+    /// It takes 2 bytes a frame of the host, and 1.5 MiB for decoded words: `NoMemory` where it has none for them.
     pub fn new(alloc: Global, ram: Ram, translator: T) -> Result<Spaces<T>, NoMemory>
         ensures { IfOk result (λ s. s ≡ no_spaces (length ram)) }
     {
@@ -271,7 +271,7 @@ impl<T: Translate> Spaces<T> {
     /// The same spaces, pipes and registers over a duplicate of the memory, with a translator of its own, which is
     /// fenced: it may hold anything.
     ///
-    /// It takes 4098 bytes a frame of the host, and 768 KiB for decoded words, of which none are decoded yet:
+    /// It takes 4098 bytes a frame of the host, and 1.5 MiB for decoded words, of which none are decoded yet:
     /// `NoMemory` where it has none for them.
     pub fn duplicate<U: Translate>(
         &self,

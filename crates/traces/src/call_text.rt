@@ -137,15 +137,15 @@ fn take_bytes<D: BlockDev, T: Translate>(
 fn write_data<D: BlockDev, T: Translate>(
     text: &mut CallText,
     machine: &Machine<D, T>,
-    pid: u32,
-    address: u64,
+    asked: &Asked,
     known: Option<u64>,
     most: u64,
 ) -> Result<(), AllocError> {
+    let [_, address, ..] = asked.arguments;
     let Some(count) = known else {
         return write_address(&mut text.back, address);
     };
-    if !take_bytes(&mut text.data, machine, pid, address, count.min(most))? {
+    if !take_bytes(&mut text.data, machine, asked.pid, address, count.min(most))? {
         return write_address(&mut text.back, address);
     }
     text.shown = if count > most {
@@ -164,10 +164,10 @@ fn write_buffer<D: BlockDev, T: Translate>(
     known: Option<u64>,
     most: usize,
 ) -> Result<(), AllocError> {
-    let [descriptor, address, count, ..] = asked.arguments;
+    let [descriptor, _, count, ..] = asked.arguments;
     write_int(&mut text.front, descriptor)?;
     text.front.push_str(", ")?;
-    write_data(text, machine, asked.pid, address, known, most as u64)?;
+    write_data(text, machine, asked, known, most as u64)?;
     text.back.push_str(", ")?;
     write_int(&mut text.back, count)
 }

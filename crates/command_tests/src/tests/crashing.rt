@@ -1,10 +1,10 @@
 //! Programs that crash: what is printed of a fault as it comes, and of it in reports.
 ghost use Rattle.std.specs.Prelude.{◌≤◌, IfOk, IfSome, length};
 
-use crate::tests::runs::{INIT, with_image};
+use crate::tests::runs::{INIT, WITH_CONSOLE, with_image};
 use crate::tests::telling::expect_parts;
 use crate::tests::{DEAD, Name, UNTOLD, change, expect, expect_text, flat_told, program_of};
-use commands::{Host, HostFault, Job, Live, Play, Run, Screen, Telling};
+use commands::{Gdb, Host, HostFault, Job, Live, Play, Run, Screen, Telling};
 use std::alloc::Global;
 use std::cell::Cell;
 use std::fmt;
@@ -252,28 +252,38 @@ fn telling_of(row: &Row) -> Telling<'static> {
     }
 }
 
+const RUN: Run<'static> = Run {
+    frames: 64,
+    tlb: false,
+    fail: None,
+    save: None,
+    telling: UNTOLD,
+    image: "image",
+    script: "script",
+};
+
 fn run_of(row: &Row) -> Run<'static> {
     Run {
-        frames: 64,
-        tlb: false,
-        fail: None,
-        save: None,
         telling: telling_of(row),
-        image: "image",
-        script: "script",
+        ..RUN
     }
 }
 
+const LIVE: Live<'static> = Live {
+    frames: 64,
+    quantum: None,
+    script: None,
+    save: None,
+    terminal: false,
+    edit: false,
+    symbols: None,
+    image: "image",
+};
+
 fn live_of(row: &Row) -> Live<'static> {
     Live {
-        frames: 64,
-        quantum: None,
-        script: None,
-        save: None,
-        terminal: false,
-        edit: false,
         symbols: row.symbols,
-        image: "image",
+        ..LIVE
     }
 }
 
@@ -292,26 +302,30 @@ fn job_of(row: &Row) -> Job<'static> {
 // The files that are read: the image, the flat program, the file with symbols.
 type Given<'a> = (&'a [u8], &'a [u8], &'a [u8]);
 
+fn bench_of<'a>(alloc: Global, given: Given<'a>, paper: Option<Paper<'a>>) -> Bench<'a> {
+    let (image, program, symbols) = given;
+    Bench {
+        alloc,
+        image,
+        program,
+        symbols,
+        report: Vec::new(alloc),
+        paper,
+    }
+}
+
 fn expect_row<'a>(
     rt: &(impl Abort + AllocGlobal),
     given: Given<'a>,
     shown: &'a Cell<String>,
     row: &Row,
 ) {
-    let (image, program, symbols) = given;
     let name: Name<'_> = ("a crash", row.name);
     let paper = Paper {
         alloc: rt.alloc(),
         shown,
     };
-    let mut bench = Bench {
-        alloc: rt.alloc(),
-        image,
-        program,
-        symbols,
-        report: Vec::new(rt.alloc()),
-        paper: row.on_terminal.then_some(paper),
-    };
+    let mut bench = bench_of(rt.alloc(), given, row.on_terminal.then_some(paper));
     expect(rt, name, &mut bench, &job_of(row), ("", row.stderr, 0));
     expect_parts(rt, name, bench.report.as_slice(), row.parts);
     let text = shown.replace(String::new(rt.alloc()));
@@ -334,7 +348,69 @@ fn expect_rows(rt: &(impl Abort + AllocGlobal)) {
     }
 }
 
+// Says `hi` in a line that doesn't end, and crashes.
+const SAYS: &str = "\
+    la a0, console\n li a1, 2\n li a7, 15\n ecall\n la a1, greeting\n li a2, 2\n li a7, 16\n ecall\n\
+    lui a0, 0x7000\n ld a1, 8(a0)\n\
+    console: .ascii \"console\\0\"\ngreeting: .ascii \"hi\"\n";
+
+const SAID: &str =
+    "\npid 1 (/init): load from 0x7000008 at pc 0x3c: the process has no page there\n";
+
+// On a terminal a fault is printed on a line of its own.
+fn expect_own_line(rt: &(impl Abort + AllocGlobal)) {
+    let files = with_image(rt, SAYS, WITH_CONSOLE, 32);
+    let shown = Cell::new(String::new(rt.alloc()));
+    let paper = Paper {
+        alloc: rt.alloc(),
+        shown: &shown,
+    };
+    let mut bench = bench_of(rt.alloc(), (files.image.as_slice(), &[], &[]), Some(paper));
+    let job = Job::Live(Live {
+        symbols: None,
+        ..LIVE
+    });
+    let name = ("a crash", "after a line that doesn't end");
+    expect(rt, name, &mut bench, &job, ("hi", DEAD, 0));
+    let text = shown.replace(String::new(rt.alloc()));
+    expect_text(rt, name, text.as_str().as_bytes(), SAID);
+}
+
+// A directory without a file of symbols can't be read, and files of other programs are reported.
+fn expect_symbols(rt: &(impl Abort + AllocGlobal)) {
+    let files = with_image(rt, CRASH, INIT, 32);
+    let mut bench = bench_of(
+        rt.alloc(),
+        (files.image.as_slice(), &[], b"no program"),
+        None,
+    );
+    let job = Job::Run(Run {
+        telling: Telling {
+            report: true,
+            symbols: Some("nowhere"),
+            ..UNTOLD
+        },
+        ..RUN
+    });
+    let name = ("symbols", "of no file");
+    expect(rt, name, &mut bench, &job, ("", "cannot read nowhere\n", 1));
+    let job = Job::Gdb(Gdb {
+        frames: 64,
+        memory: 1,
+        recorded: None,
+        symbols: Some("names"),
+        image: "image",
+        script: None,
+    });
+    let name = ("symbols", "of another program");
+    expect(rt, name, &mut bench, &job, ("", OTHER, 0));
+}
+
+const OTHER: &str = "/init: the file with symbols is of another program\n";
+
 #[test]
 fn crashes_are_printed_as_they_come(rt: HostRuntime) {
     expect_rows(&rt);
+    expect_own_line(&rt);
+    expect_symbols(&rt);
 }

@@ -141,23 +141,37 @@ static ROWS: [Row; 9] = [
     },
 ];
 
+const REACH: Reach = Reach {
+    ticks: None,
+    states: 1000,
+    seconds: None,
+    fine: false,
+    random: None,
+    seed: 1,
+};
+
+const PLAIN: Explore<'static> = Explore {
+    frames: 64,
+    reach: REACH,
+    scripts: None,
+    want: None,
+    status: None,
+    image: "image",
+    script: None,
+};
+
+pub const EXPLORE: Job<'static> = Job::Explore(PLAIN);
+
 // The job of a row.
 fn job_of(row: &Row) -> Job<'static> {
     Job::Explore(Explore {
-        frames: 64,
         reach: Reach {
             ticks: row.ticks,
             states: row.states,
-            seconds: None,
-            fine: false,
-            random: None,
-            seed: 1,
+            ..REACH
         },
-        scripts: None,
-        want: None,
         status: row.wanted,
-        image: "image",
-        script: None,
+        ..PLAIN
     })
 }
 

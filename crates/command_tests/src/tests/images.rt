@@ -1,4 +1,5 @@
 //! Stored runs of the commands that make disk images and check them.
+use crate::tests::program_files::ASM;
 use crate::tests::{DONE, Files, Name, Wanted, change, expect, expect_that, files_of};
 use commands::{Check, Front, Host, HostFault, Job, Mkfs, NoScreen, Why};
 use std::process::Abort;
@@ -385,15 +386,20 @@ fn expect_too_long(rt: &(impl Abort + AllocGlobal), row: &TooLong) {
     expect(rt, name, &mut host, &CHECK, ("", line, 1));
 }
 
-// A host that finds no memory.
+// A host that finds no memory: it may have a text, and writes nothing.
 #[derive(Drop)]
-struct Full;
+struct Full {
+    text: Option<Vec<u8>>,
+}
 
 impl Host for Full {
     type Screen = NoScreen;
 
     fn read(&mut self, _name: &str) -> Result<Vec<u8>, HostFault> {
-        Err(HostFault)
+        match &self.text {
+            Some(text) => text.clone().map_err(|_| HostFault),
+            None => Err(HostFault),
+        }
     }
 
     fn write(&mut self, _name: &str, _bytes: &[u8]) -> Result<(), HostFault> {
@@ -513,7 +519,12 @@ fn expect_judged(rt: &(impl Abort + AllocGlobal)) {
     expect_all_checked(rt);
     expect_all_too_long(rt);
     let name = ("a host", "no memory");
-    expect(rt, name, &mut Full, &CHECK, ("", "no memory\n", 1));
+    let mut host = Full { text: None };
+    expect(rt, name, &mut host, &CHECK, ("", "no memory\n", 1));
+    let text = b"ret".to_vec(rt.alloc()).expect(rt, "memory");
+    let name = ("a host", "no memory for what is written");
+    let mut host = Full { text: Some(text) };
+    expect(rt, name, &mut host, &ASM, ("", "no memory\n", 1));
 }
 
 #[test]

@@ -4,7 +4,7 @@ ghost use Rattle.std.specs.Prelude.{◌≤◌, IfOk, IfSome, length};
 use crate::tests::narrow_outputs::{expect_narrow, output_of};
 use crate::tests::runs::{WITH_CONSOLE, with_image};
 use crate::tests::{Name, UNTOLD, Wanted, expect_that};
-use commands::{Host, HostFault, Job, Live, NoScreen, Run};
+use commands::{Gdb, Host, HostFault, Job, Live, NoScreen, Run};
 use std::alloc::{AllocError, Global};
 use std::num::NonZeroU64;
 use std::process::Abort;
@@ -102,7 +102,7 @@ fn expect_at(
     expect_narrow(rt, name, desk, job, out, wanted);
 }
 
-const LIVE: Live<'static> = Live {
+const SITTING: Live<'static> = Live {
     frames: 256,
     quantum: None,
     script: Some("record"),
@@ -112,6 +112,17 @@ const LIVE: Live<'static> = Live {
     symbols: None,
     image: "image",
 };
+
+pub const LIVE: Job<'static> = Job::Live(SITTING);
+
+pub const GDB: Job<'static> = Job::Gdb(Gdb {
+    frames: 256,
+    memory: 1,
+    recorded: None,
+    symbols: None,
+    image: "image",
+    script: Some("script"),
+});
 
 const REPLAY: Job<'static> = Job::Run(Run {
     frames: 256,
@@ -171,7 +182,7 @@ fn expect_session(
     let live = Job::Live(Live {
         terminal,
         quantum,
-        ..LIVE
+        ..SITTING
     });
     let name = ("a session", stdout);
     expect_at(rt, name, &mut desk, &live, 1000, (stdout, stderr, 0));
@@ -270,7 +281,7 @@ fn expect_refused(rt: &(impl Abort + AllocGlobal), image: &[u8], row: &Refused) 
         frames: row.frames,
         script: row.script,
         save: row.save,
-        ..LIVE
+        ..SITTING
     });
     expect_at(rt, name, &mut desk, &job, row.room, row.wanted);
 }

@@ -4,7 +4,7 @@ use crate::tests::{DONE, Files, Wanted, change, expect, files_of};
 use commands::{Job, Migrate};
 use std::process::Abort;
 
-fn migrate<'a>(old: &'a str, new: &'a str) -> Job<'a> {
+pub fn migrate<'a>(old: &'a str, new: &'a str) -> Job<'a> {
     Job::Migrate(Migrate { old, new })
 }
 

@@ -2,13 +2,14 @@
 use crate::tests::images::{CHECK, mkfs, with_files};
 use crate::tests::listing::ls;
 use crate::tests::openings::{get, put, with_letters};
-use crate::tests::program_files::{DUMP, with_program};
+use crate::tests::program_files::{AS, DUMP, with_program};
 use crate::tests::runs::{REPEATS, WITH_CONSOLE, put_text, run, with_image};
 use crate::tests::{
-    DONE, Files, Name, Wanted, expect, expect_that, expect_told, files_of, flat, hello, program_of,
+    DONE, Files, Name, UNTOLD, Wanted, expect, expect_that, expect_told, files_of, flat, flat_told,
+    hello, program_of,
 };
 use commands::perform::perform;
-use commands::{Host, Job};
+use commands::{As, Host, Job, Telling};
 use std::alloc::Global;
 use std::io;
 use std::io::Write;
@@ -121,6 +122,14 @@ static DUMPS: [Output; 3] = [
     ),
 ];
 
+const EXPANDED: &str = "    addi zero, zero, 0\n";
+
+static EXPANDS: [Output; 3] = [
+    (100, true, EXPANDED, "", 0),
+    (9, true, "    addi ", UNWRITTEN, 1),
+    (100, false, EXPANDED, UNWRITTEN, 1),
+];
+
 fn expect_output(
     rt: &(impl Abort + AllocGlobal),
     subject: &str,
@@ -192,21 +201,38 @@ static BATCHES: [(&str, &[usize]); 8] = [
     ),
 ];
 
+// A job writes its output out each time that it has this many bytes.
+fn expect_flushed(
+    rt: &(impl Abort + AllocGlobal),
+    name: Name<'_>,
+    files: &mut Files,
+    job: &Job<'_>,
+    flushed: &[usize],
+) {
+    let mut out = output_of(rt.alloc(), usize::MAX, true);
+    let mut err = Vec::new(rt.alloc());
+    let status = perform(rt.alloc(), job, files, &mut out, &mut err);
+    expect_that(rt, name, "status 0", status == 0);
+    expect_that(rt, name, "the batches", out.flushed.as_slice() == flushed);
+}
+
 fn expect_batches(rt: &(impl Abort + AllocGlobal), script: &str, flushed: &[usize]) {
     let program = program_of(rt.alloc(), WRITES).expect(rt, "memory");
     let mut files = files_of(rt.alloc(), program, script.as_bytes()).expect(rt, "memory");
-    let mut out = output_of(rt.alloc(), usize::MAX, true);
-    let mut err = Vec::new(rt.alloc());
-    let status = perform(
-        rt.alloc(),
-        &flat(256, false),
-        &mut files,
-        &mut out,
-        &mut err,
-    );
-    let name = ("written out", script);
-    expect_that(rt, name, "status 0", status == 0);
-    expect_that(rt, name, "the batches", out.flushed.as_slice() == flushed);
+    let job = flat(256, false);
+    expect_flushed(rt, ("written out", script), &mut files, &job, flushed);
+}
+
+// Where faults are printed as they come, each byte is written out at once.
+fn expect_each_byte(rt: &(impl Abort + AllocGlobal)) {
+    let telling = Telling {
+        faults: true,
+        ..UNTOLD
+    };
+    let job = flat_told(256, telling);
+    let name = ("written out", "with faults");
+    let mut files = with_hello(rt);
+    expect_flushed(rt, name, &mut files, &job, &[1, 2, 3, 3]);
 }
 
 fn expect_all_batches(rt: &(impl Abort + AllocGlobal)) {
@@ -236,12 +262,17 @@ fn expect_narrow_texts(rt: &(impl Abort + AllocGlobal)) {
     expect(rt, ("put", "/f"), &mut files, &put("/f"), DONE);
     expect_outputs(rt, "a file", files, &get("/f"), &GETS);
     expect_outputs(rt, "a dump", with_program(rt, "ret", &[]), &DUMP, &DUMPS);
+    let nothing = Vec::new(rt.alloc());
+    let text = files_of(rt.alloc(), nothing, b"nop").expect(rt, "memory");
+    let job = Job::As(As { expand: true, ..AS });
+    expect_outputs(rt, "a text", text, &job, &EXPANDS);
 }
 
 fn expect_all_outputs(rt: &(impl Abort + AllocGlobal)) {
     expect_narrow_consoles(rt);
     expect_narrow_texts(rt);
     expect_all_batches(rt);
+    expect_each_byte(rt);
 }
 
 #[test]

@@ -1,7 +1,7 @@
 //! Stored plays, and the scripts that they come to.
 use crate::tests::living::LISTENS;
 use crate::tests::runs::{WITH_CONSOLE, with_image};
-use crate::tests::telling::expect_explained;
+use crate::tests::telling::{expect_explained, expect_parts};
 use crate::tests::{UNTOLD, expect, expect_that, text_of};
 use commands::perform::perform;
 use commands::{Host, HostFault, Job, NoScreen, Play, Run};
@@ -65,7 +65,14 @@ fn run(script: &str, tlb: bool) -> Run<'_> {
     }
 }
 
-fn play_of(tlb: bool, script: Option<&'static str>) -> Job<'static> {
+// A play on an image.
+pub fn play_on(image: &'static str, script: &'static str) -> Job<'static> {
+    let mut run = run(script, false);
+    run.image = image;
+    Job::Play(Play { run, script: None })
+}
+
+pub fn play_of(tlb: bool, script: Option<&'static str>) -> Job<'static> {
     Job::Play(Play {
         run: run("play", tlb),
         script,
@@ -270,7 +277,7 @@ fn expect_played(rt: &(impl Abort + AllocGlobal), image: &[u8], row: &Row, tlb: 
 }
 
 // Plays that can't be read, and what is printed of them: the line, the word, and why.
-static FAULTS: [(&str, &str); 33] = [
+static FAULTS: [(&str, &str); 34] = [
     ("untill", "play:1: untill: no such command\n"),
     (
         "step 1\n\n  # none\ntick",
@@ -332,6 +339,7 @@ static FAULTS: [(&str, &str); 33] = [
         "repeat 2 {\nstep 1\nrepeat 3 {\n}",
         "play:1: repeat: no } ends it\n",
     ),
+    ("repeat 2 {\nrepeat 3 {", "play:2: repeat: no } ends it\n"),
     ("step 1\n}", "play:2: }: no repeat is open\n"),
     (
         "repeat 1 {\nrepeat 1 {\nrepeat 1 {\nrepeat 1 {\nrepeat 1 {\nrepeat 1 {\nrepeat 1 {\nrepeat 1 {\n repeat 1 {",
@@ -388,10 +396,41 @@ fn expect_idle_counted(rt: &(impl Abort + AllocGlobal), image: &[u8]) {
     );
 }
 
+// What the report of a play as JSON, in the file `script`, says of the play.
+const ENDS: &[(&str, &str)] = &[
+    ("step 1", "    \"end\": \"done\",\n"),
+    ("until halt 1", "    \"end\": \"unreached\",\n"),
+    (
+        "until prompt 1000\nkeys 04\nuntil halt 1000",
+        "    \"end\": \"halted\",\n",
+    ),
+];
+
+fn expect_end(rt: &(impl Abort + AllocGlobal), image: &[u8], text: &str, part: &str) {
+    let mut stage = stage_of(rt.alloc(), image, text).expect(rt, "memory");
+    let mut words = run("play", false);
+    words.telling.json = Some("script");
+    let job = Job::Play(Play {
+        run: words,
+        script: None,
+    });
+    let mut out = Vec::new(rt.alloc());
+    let mut err = Vec::new(rt.alloc());
+    let _ = perform(rt.alloc(), &job, &mut stage, &mut out, &mut err);
+    expect_parts(rt, ("a play", text), stage.script.as_slice(), &[part]);
+}
+
+fn expect_ends(rt: &(impl Abort + AllocGlobal), image: &[u8]) {
+    for (text, part) in ENDS {
+        expect_end(rt, image, text, part);
+    }
+}
+
 fn expect_plays(rt: &(impl Abort + AllocGlobal)) {
     let files = with_image(rt, LISTENS, WITH_CONSOLE, 32);
     expect_all_played(rt, files.image.as_slice(), &PLAYED);
     expect_idle_counted(rt, files.image.as_slice());
+    expect_ends(rt, files.image.as_slice());
     let files = with_image(rt, PROMPTS, WITH_CONSOLE, 32);
     expect_all_played(rt, files.image.as_slice(), &PROMPTED);
     expect_faults(rt);

@@ -1,5 +1,5 @@
 //! Stored runs of the commands on the texts and the files of programs.
-use crate::tests::{DONE, Files, change, expect, files_of};
+use crate::tests::{DONE, Files, Wanted, change, expect, expect_text, files_of};
 use commands::{As, Asm, Dump, Files as Names, Job};
 use std::process::Abort;
 
@@ -137,7 +137,7 @@ fn expect_files(rt: &(impl Abort + AllocGlobal)) {
 }
 
 // The words of `as` for the text that lies where scripts do.
-const AS: As<'static> = As {
+pub const AS: As<'static> = As {
     texts: Names {
         first: "script",
         second: None,
@@ -238,6 +238,73 @@ fn expect_names(rt: &(impl Abort + AllocGlobal)) {
     );
 }
 
+// The name of a text, and that of its program where the words give none, with a blank, or what is printed.
+const STEMS: &[(&str, &str, Wanted<'static>)] = &[
+    ("d/a.s", "d/a ", DONE),
+    ("d/b/c.s", "d/b/c ", DONE),
+    ("d/as", "", ("", "cannot write a.out\n", 1)),
+    ("d/.s", "", ("", "cannot write a.out\n", 1)),
+];
+
+fn expect_stem(
+    rt: &(impl Abort + AllocGlobal),
+    text: &str,
+    program: &str,
+    wanted: Wanted<'static>,
+) {
+    let nothing = Vec::new(rt.alloc());
+    let mut files = files_of(rt.alloc(), nothing, b"ret").expect(rt, "memory");
+    let texts = Names {
+        first: text,
+        ..AS.texts
+    };
+    let job = Job::As(As {
+        texts,
+        out: None,
+        ..AS
+    });
+    expect(rt, ("as", text), &mut files, &job, wanted);
+    expect_text(rt, ("as", text), files.names.as_bytes(), program);
+}
+
+// All of eight texts are read, the last one after the others.
+fn expect_eight(rt: &(impl Abort + AllocGlobal)) {
+    let last = b"ret".to_vec(rt.alloc()).expect(rt, "memory");
+    let mut files = files_of(rt.alloc(), last, b"nop").expect(rt, "memory");
+    let one = Some("script");
+    let texts = Names {
+        first: "script",
+        second: one,
+        third: one,
+        fourth: one,
+        fifth: one,
+        sixth: one,
+        seventh: one,
+        eighth: Some("host"),
+    };
+    let job = Job::As(As { texts, ..AS });
+    expect(rt, ("as", "eight texts"), &mut files, &job, DONE);
+    let name = ("a dump", "of eight texts");
+    expect(rt, name, &mut files, &DUMP, (EIGHT, "", 0));
+}
+
+const EIGHT: &str = "00000000: 00000013 addi zero, zero, 0\n00000004: 00000013 addi zero, zero, 0\n\
+    00000008: 00000013 addi zero, zero, 0\n0000000c: 00000013 addi zero, zero, 0\n\
+    00000010: 00000013 addi zero, zero, 0\n00000014: 00000013 addi zero, zero, 0\n\
+    00000018: 00000013 addi zero, zero, 0\n0000001c: 00008067 jalr zero, 0(ra)\n";
+
+// No text is lost.
+fn expect_texts_kept(rt: &(impl Abort + AllocGlobal)) {
+    let nothing = Vec::new(rt.alloc());
+    let mut files = files_of(rt.alloc(), nothing, b"ret").expect(rt, "memory");
+    let job = Job::As(As {
+        out: Some("script"),
+        ..AS
+    });
+    let wanted = ("", "script is named twice\n", 1);
+    expect(rt, ("as", "over its text"), &mut files, &job, wanted);
+}
+
 #[test]
 fn assembles_texts_for_others(rt: HostRuntime) {
     for row in MADE {
@@ -245,6 +312,11 @@ fn assembles_texts_for_others(rt: HostRuntime) {
     }
     expect_expanded(&rt);
     expect_names(&rt);
+    for (text, program, wanted) in STEMS {
+        expect_stem(&rt, text, program, *wanted);
+    }
+    expect_eight(&rt);
+    expect_texts_kept(&rt);
 }
 
 #[test]

@@ -1,9 +1,11 @@
 //! What long runs show on a terminal.
 ghost use Rattle.std.specs.Prelude.{◌≤◌, IfOk, IfSome, length};
 
-use crate::tests::runs::{INIT, with_image};
+use crate::tests::runs::{INIT, WITH_CONSOLE, with_image};
+use crate::tests::tracing::ALL;
 use crate::tests::{UNTOLD, expect, expect_that};
-use commands::{Host, HostFault, Job, Live, Play, Run, Screen, Telling};
+use commands::perform::perform;
+use commands::{Host, HostFault, Job, Live, Play, Run, Screen, Telling, Trace};
 use std::alloc::Global;
 use std::cell::Cell;
 use std::fmt;
@@ -95,6 +97,8 @@ fn room_of<'a>(wall: Wall<'a>, image: &'a [u8], script: &'a [u8]) -> Room<'a> {
 enum Doing {
     Run,
     RunTold,
+    RunWatched,
+    TraceTold,
     Play,
     Live,
 }
@@ -109,6 +113,13 @@ fn run(progress: bool) -> Run<'static> {
         image: "image",
         script: "script",
     }
+}
+
+// The same, which is watched for faults.
+fn watched() -> Job<'static> {
+    let mut run = run(true);
+    run.telling.faults = true;
+    Job::Run(run)
 }
 
 fn play() -> Job<'static> {
@@ -135,6 +146,11 @@ fn job_of(doing: Doing) -> Job<'static> {
     match doing {
         Doing::Run => Job::Run(run(false)),
         Doing::RunTold => Job::Run(run(true)),
+        Doing::RunWatched => watched(),
+        Doing::TraceTold => Job::Trace(Trace {
+            run: run(true),
+            ..ALL
+        }),
         Doing::Play => play(),
         Doing::Live => live(),
     }
@@ -143,7 +159,7 @@ fn job_of(doing: Doing) -> Job<'static> {
 // What is done, its script, and the lines that are shown.
 type Row = (Doing, &'static [u8], &'static [&'static str]);
 
-static ROWS: [Row; 4] = [
+static ROWS: [Row; 6] = [
     (Doing::Run, b"step 65537", &[]),
     (
         Doing::RunTold,
@@ -154,6 +170,17 @@ static ROWS: [Row; 4] = [
             BLANKS,
         ],
     ),
+    (
+        Doing::RunWatched,
+        b"step 9\ntick 1\nstep 131073",
+        &[
+            "         65545 steps,       54620 a second ",
+            "        131081 steps,      109226 a second ",
+            BLANKS,
+        ],
+    ),
+    // Its text is on standard error.
+    (Doing::TraceTold, b"step 131073", &[]),
     (
         Doing::Play,
         b"step 65537",
@@ -205,7 +232,35 @@ fn expect_all_shown(rt: &(impl Abort + AllocGlobal)) {
     }
 }
 
+// Write 37 bytes and 38 on the console, in a line that doesn't end, and run on for ever.
+const WIDE: &str = "\
+    la a0, console\n li a1, 2\n li a7, 15\n ecall\n la a1, wide\n li a2, 37\n li a7, 16\n ecall\nagain: j again\n\
+    console: .ascii \"console\\0\"\nwide: .zero 40\n";
+
+const WIDER: &str = "\
+    la a0, console\n li a1, 2\n li a7, 15\n ecall\n la a1, wide\n li a2, 38\n li a7, 16\n ecall\nagain: j again\n\
+    console: .ascii \"console\\0\"\nwide: .zero 40\n";
+
+// Whether a line is shown where the console's last one has as many columns.
+fn expect_beside(rt: &(impl Abort + AllocGlobal), text: &str, is_shown: bool) {
+    let files = with_image(rt, text, WITH_CONSOLE, 32);
+    let now = Cell::new(0);
+    let shown = Cell::new(String::new(rt.alloc()));
+    let wall = wall_of(rt.alloc(), &now, &shown);
+    let mut room = room_of(wall, files.image.as_slice(), b"step 196609");
+    let mut out = Vec::new(rt.alloc());
+    let mut err = Vec::new(rt.alloc());
+    let job = Job::Run(run(true));
+    let status = perform(rt.alloc(), &job, &mut room, &mut out, &mut err);
+    let name = ("a long run", text);
+    expect_that(rt, name, "the status", status == 0);
+    let same = shown.into_inner().is_empty() != is_shown;
+    expect_that(rt, name, "whether a line is shown", same);
+}
+
 #[test]
 fn long_runs_tell_that_they_go_on(rt: HostRuntime) {
     expect_all_shown(&rt);
+    expect_beside(&rt, WIDE, true);
+    expect_beside(&rt, WIDER, false);
 }

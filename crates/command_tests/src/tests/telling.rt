@@ -1,13 +1,18 @@
 //! What is printed of a run besides how it ended, and what is said of a line that reports a fault.
+use crate::tests::exploring::EXPLORE;
 use crate::tests::images::mkfs;
+use crate::tests::living::{GDB, LIVE};
+use crate::tests::migrating::migrate;
 use crate::tests::openings::{get, with_letters};
-use crate::tests::runs::put_text;
+use crate::tests::plays::play_of;
+use crate::tests::runs::{HELLO, put_text, run, with_image};
 use crate::tests::tracing::ALL;
 use crate::tests::{
     Name, Program, UNTOLD, Wanted, bytes_of, expect, expect_text, expect_that, files_of, flat,
     flat_told, text_of,
 };
-use commands::{Host, Job, Telling, explain, explain_words};
+use commands::{Host, HostFault, Job, NoScreen, Telling, Why, explain, explain_words};
+use std::io;
 use std::num::NonZeroU64;
 use std::process::Abort;
 
@@ -182,6 +187,11 @@ const MANIFESTS: &[Said] = &[
         "manifest line 1",
         "explain: manifest:1: dri /a: did you mean dir?\n",
     ),
+    (
+        "dir /a/b\n",
+        "fault 5 Parent",
+        "explain: manifest:1: /a/b is in a directory that no earlier line lists\n",
+    ),
     ("dir /a\n", "a line of no fault", ""),
 ];
 
@@ -230,8 +240,9 @@ fn expect_all_said(rt: &(impl Abort + AllocGlobal), job: &Job<'_>, rows: &[Said]
 }
 
 // A path that leads to no file, and the one that was meant.
-static MEANT: [(&str, &str); 5] = [
+static MEANT: [(&str, &str); 6] = [
     ("/F", "explain: /F: did you mean /f?\n"),
+    ("/d//E/x", "explain: /d//E/x: did you mean /d/e/x?\n"),
     ("D//e/x", "explain: D//e/x: did you mean /d//e/x?\n"),
     ("/d/E/x", "explain: /d/E/x: did you mean /d/e/x?\n"),
     ("/d/f", NOTHING),
@@ -255,6 +266,55 @@ fn expect_word_meant(rt: &(impl Abort + AllocGlobal)) {
     expect_text(rt, ("explained", "rnu"), err.as_slice(), wanted);
 }
 
+// The jobs that boot from an image without a program.
+fn expect_no_init(rt: &(impl Abort + AllocGlobal)) {
+    let mut files = with_image(rt, HELLO, "", 32);
+    for job in &[LIVE, EXPLORE, GDB, Job::Trace(ALL), play_of(false, None)] {
+        let more = "explain: no /init on the image\n";
+        expect_explained(rt, &mut files, job, "fault 5 NoInit", more);
+    }
+}
+
+// A host that says why it did not write.
+#[derive(Drop)]
+struct Locked;
+
+impl Host for Locked {
+    type Screen = NoScreen;
+
+    fn read(&mut self, _name: &str) -> Result<Vec<u8>, HostFault> {
+        Err(HostFault)
+    }
+
+    fn write(&mut self, _name: &str, _bytes: &[u8]) -> Result<(), HostFault> {
+        Err(HostFault)
+    }
+
+    fn why(&self) -> Why {
+        Why::System(io::Error::from(io::ErrorKind::PermissionDenied))
+    }
+}
+
+// What the system says of a file, and what is said of an image of which there are too many blocks.
+fn expect_reasons(rt: &(impl Abort + AllocGlobal)) {
+    let job = migrate("a", "b");
+    let written = "explain: b: permission denied\n";
+    expect_explained(rt, &mut Locked, &job, "cannot write b", written);
+    let read = "explain: a: permission denied\n";
+    expect_explained(rt, &mut Locked, &job, "cannot read a", read);
+    let output = "explain: standard output took not all: is the disk full, or the reader gone?\n";
+    expect_explained(
+        rt,
+        &mut Locked,
+        &job,
+        "cannot write standard output",
+        output,
+    );
+    let blocks =
+        "explain: the files take more blocks in the large format than the image has: put fewer on it\n";
+    expect_explained(rt, &mut Locked, &job, "fault 2 Blocks", blocks);
+}
+
 fn expect_rows(rt: &(impl Abort + AllocGlobal)) {
     for row in &ROWS {
         expect_row(rt, row);
@@ -264,6 +324,8 @@ fn expect_rows(rt: &(impl Abort + AllocGlobal)) {
 fn expect_texts(rt: &(impl Abort + AllocGlobal)) {
     expect_all_said(rt, &mkfs(64, 16), MANIFESTS);
     expect_all_said(rt, &flat(256, false), SCRIPTS);
+    expect_all_said(rt, &run(256, false, None), SCRIPTS);
+    expect_all_said(rt, &GDB, SCRIPTS);
     expect_all_said(rt, &Job::Trace(ALL), CALLS);
 }
 
@@ -272,6 +334,8 @@ fn expect_lines(rt: &(impl Abort + AllocGlobal)) {
     expect_texts(rt);
     expect_meant(rt);
     expect_word_meant(rt);
+    expect_no_init(rt);
+    expect_reasons(rt);
 }
 
 #[test]

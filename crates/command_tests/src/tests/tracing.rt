@@ -1,10 +1,20 @@
 //! Traces in files.
 use crate::tests::living::desk_of;
 use crate::tests::runs::{HELLO, INIT, with_image};
-use crate::tests::{UNTOLD, expect, expect_that};
+use crate::tests::telling::expect_parts;
+use crate::tests::{UNTOLD, expect, expect_text, expect_that};
+use commands::perform::perform;
 use commands::{Job, Lines, Part, Run, Trace};
 use std::num::NonZeroU64;
 use std::process::Abort;
+
+const LINES: Lines = Lines {
+    bytes: 32,
+    each: false,
+    time: false,
+    turns: false,
+    core_is_pid: false,
+};
 
 pub const ALL: Trace<'static> = Trace {
     run: Run {
@@ -22,13 +32,7 @@ pub const ALL: Trace<'static> = Trace {
         from: None,
         to: None,
     },
-    lines: Lines {
-        bytes: 32,
-        each: false,
-        time: false,
-        turns: false,
-        core_is_pid: false,
-    },
+    lines: LINES,
     text: None,
     perfetto: None,
     commits: None,
@@ -276,11 +280,80 @@ fn expect_traced(rt: &(impl Abort + AllocGlobal), image: &[u8], row: &Row) {
     expect_that(rt, name, "its file", same);
 }
 
+// What is asked of a trace, and the text of the file.
+struct Asked {
+    name: &'static str,
+    lines: Lines,
+    text: &'static str,
+}
+
+static ASKED: [Asked; 2] = [
+    Asked {
+        name: "with times",
+        lines: Lines {
+            time: true,
+            ..LINES
+        },
+        text: "6 [pid 1] write(1, \"hi\\n\", 3) = -1\n9 [pid 1] exit(0) = ?\n9 [pid 1] +++ ended with 0 +++\n",
+    },
+    Asked {
+        name: "with turns",
+        lines: Lines {
+            turns: true,
+            ..LINES
+        },
+        text: "[pid 1] --- turn ---\n[pid 1] write(1, \"hi\\n\", 3) = -1\n\
+            [pid 1] exit(0) = ?\n[pid 1] +++ ended with 0 +++\n",
+    },
+];
+
+fn expect_asked(rt: &(impl Abort + AllocGlobal), image: &[u8], asked: &Asked) {
+    let name = ("a trace", asked.name);
+    let mut desk = desk_of(rt.alloc(), image, b"", 10000).expect(rt, "memory");
+    desk.script = b"step 9".to_vec(rt.alloc()).expect(rt, "memory");
+    let job = Job::Trace(Trace {
+        run: Run {
+            script: "script",
+            ..ALL.run
+        },
+        lines: asked.lines,
+        text: Some("record"),
+        ..ALL
+    });
+    expect(rt, name, &mut desk, &job, ("", ENDED, 0));
+    expect_text(rt, name, desk.record.as_slice(), asked.text);
+}
+
+const NAMED: &str = "pid 1 (/init) ended with status 0; parent 0, pc 0x20, 12288 bytes, 9 frames\n";
+
+// A report of a run that is traced.
+fn expect_report(rt: &(impl Abort + AllocGlobal), image: &[u8]) {
+    let mut desk = desk_of(rt.alloc(), image, b"", 10000).expect(rt, "memory");
+    desk.record = b"step 9".to_vec(rt.alloc()).expect(rt, "memory");
+    let mut words = ALL;
+    words.run.telling.report = true;
+    let mut out = Vec::new(rt.alloc());
+    let mut err = Vec::new(rt.alloc());
+    let _ = perform(
+        rt.alloc(),
+        &Job::Trace(words),
+        &mut desk,
+        &mut out,
+        &mut err,
+    );
+    let parts = &[TEXT, "report: 9 steps, 0 ticks, 0 keys\n", NAMED];
+    expect_parts(rt, ("a trace", "with a report"), err.as_slice(), parts);
+}
+
 fn expect_all_traced(rt: &(impl Abort + AllocGlobal)) {
     let files = with_image(rt, HELLO, INIT, 32);
     for row in &TRACED {
         expect_traced(rt, files.image.as_slice(), row);
     }
+    for asked in &ASKED {
+        expect_asked(rt, files.image.as_slice(), asked);
+    }
+    expect_report(rt, files.image.as_slice());
 }
 
 #[test]

@@ -16,7 +16,7 @@ impl<D: Duplicate, T: Translate> Machine<D, T> {
     ///
     /// The copy's translator is the caller's, and may be of another kind. It is fenced, so it may hold anything.
     ///
-    /// It takes of the host what the machine has: 4098 bytes a frame, 768 KiB for decoded words, and the disk with the
+    /// It takes of the host what the machine has: 4098 bytes a frame, 1.5 MiB for decoded words, and the disk with the
     /// blocks that are held of it. Besides boot it is the only call that asks for memory of the host. `NoMemory` where
     /// there isn't that much: this machine is as it was, and the translator is gone.
     pub fn copy<U: Translate>(

@@ -86,6 +86,8 @@ fn expect_names<R: Files<File = File> + AllocGlobal + Abort>(rt: &R) -> io::Resu
         let told = is_same(rt, one_path.as_str(), other_path.as_str());
         expect_that(rt, (*one, *other), "one file", told == *same);
     }
+    let in_root = is_same(rt, "/xv6-no-file", "//xv6-no-file");
+    expect_that(rt, ("/", "xv6-no-file"), "one name", in_root);
     let devices = is_same(rt, "/dev/null", "/dev/null");
     expect_that(rt, ("/dev/null", "/dev/null"), "no file", !devices);
     fs::remove_dir_all(rt, folder.as_str())

@@ -306,10 +306,11 @@ type Sweep = (
     usize,
 );
 
-static SWEEPS: [Sweep; 6] = [
+static SWEEPS: [Sweep; 7] = [
     ("a/image", &[], &[], 1),
     ("a/image", &["a/.xv6-new-1", "a/.xv6-new-2"], &[], 1),
     ("a/image", &["a/.xv6-new-31"], &[], 1),
+    ("a/image", &["a/.xv6-new-32"], &[], 1),
     ("a/image", &["a/.xv6-new-33"], &[], 2),
     ("a/image", &["a/.xv6-new-1"], &[Step::Remove], 3),
     ("a/.xv6-new-0", &["a/.xv6-new-1"], &[], 2),

@@ -3,7 +3,7 @@
 use super::Tracer;
 use crate::pipes::Put;
 use blockdev::BlockDev;
-use machine::Machine;
+use machine::{Call, Machine};
 use sv39::Translate;
 use tracetext::spans::{Arrow, CALLS, Done, HEAD, Lanes, Next, Period, Point, Span, TAIL};
 use tracetext::{Asked, Form, Sinks};
@@ -14,6 +14,22 @@ fn level_of<D: BlockDev, T: Translate>(machine: &Machine<D, T>, number: usize) -
     match machine.pipe(number) {
         Some((first, second)) => first.len().saturating_add(second.len()),
         None => 0,
+    }
+}
+
+// A pipe whose bytes have become more or fewer.
+#[derive(Clone, Copy)]
+struct Change {
+    number: usize,
+    // How many bytes it had, and how many it has.
+    before: usize,
+    level: usize,
+}
+
+impl Change {
+    // How many bytes it has more, or fewer.
+    fn count(self) -> usize {
+        self.level.abs_diff(self.before)
     }
 }
 
@@ -220,7 +236,12 @@ impl<S: Sinks + Drop> Tracer<S> {
         };
         if level != before {
             self.draw_level(number, level);
-            self.follow_bytes(number, asked, before, level, waits);
+            let change = Change {
+                number,
+                before,
+                level,
+            };
+            self.follow_bytes(asked, change, waits);
         }
     }
 
@@ -230,19 +251,13 @@ impl<S: Sinks + Drop> Tracer<S> {
         self.draw_machine(Span::level(number, at, level));
     }
 
-    // What a call did that changed how full a pipe is, or that the pipe is gone.
-    fn follow_bytes(
-        &mut self,
-        number: usize,
-        asked: Option<&Asked>,
-        before: usize,
-        level: usize,
-        waits: bool,
-    ) {
+    // What a call did that changed how full a pipe is.
+    // Only a read takes bytes: where fewer are left by anything else, the pipe is gone with them.
+    fn follow_bytes(&mut self, asked: Option<&Asked>, change: Change, waits: bool) {
         match asked {
-            Some(asked) if level > before => self.fill(number, asked, level - before, waits),
-            Some(asked) => self.drain(number, asked, before.saturating_sub(level)),
-            None => self.forget(number),
+            Some(asked) if change.level > change.before => self.fill(asked, change, waits),
+            Some(asked) if asked.is(Call::Read) => self.drain(asked, change),
+            _ => self.forget(change.number),
         }
     }
 
@@ -254,7 +269,7 @@ impl<S: Sinks + Drop> Tracer<S> {
     }
 
     // A call put bytes into a pipe.
-    fn fill(&mut self, number: usize, asked: &Asked, count: usize, waits: bool) {
+    fn fill(&mut self, asked: &Asked, change: Change, waits: bool) {
         let at = if waits {
             self.at.saturating_add(1)
         } else {
@@ -265,17 +280,17 @@ impl<S: Sinks + Drop> Tracer<S> {
         } else {
             None
         };
-        if let Some(pipe) = self.pipes.get_mut(number) {
-            pipe.put(count, arrow);
+        if let Some(pipe) = self.pipes.get_mut(change.number) {
+            pipe.put(change.count(), arrow);
         }
     }
 
     // A call took bytes from a pipe: an arrow comes from each write of which it took the last byte.
-    fn drain(&mut self, number: usize, asked: &Asked, count: usize) {
-        let Some(pipe) = self.pipes.get_mut(number) else {
+    fn drain(&mut self, asked: &Asked, change: Change) {
+        let Some(pipe) = self.pipes.get_mut(change.number) else {
             return;
         };
-        let read = pipe.take(count);
+        let read = pipe.take(change.count());
         if self.shows_call(asked) {
             for put in read.iter() {
                 self.draw_bytes(asked.pid, put);

@@ -16,16 +16,41 @@ const STAT_SIZE: u64 = 24;
 /// The bytes of an instruction.
 const WORD_SIZE: u64 = 4;
 
-// How many bytes a call that returned wrote, and to which address.
-fn written(asked: &Asked, answer: i64) -> Option<(u64, u64)> {
-    let [first, second, ..] = asked.arguments;
-    match asked.call()? {
-        Call::Read if answer >= 0 => Some((second, answer.cast_unsigned())),
-        Call::Wait if answer > 0 && first != 0 => Some((first, 4)),
-        Call::Pipe if answer == 0 => Some((first, 8)),
-        Call::Fstat if answer == 0 => Some((second, STAT_SIZE)),
-        _ => None,
+// Bytes in the memory of a process.
+#[derive(Clone, Copy)]
+struct Area {
+    pid: u32,
+    address: u64,
+    size: u64,
+}
+
+impl Area {
+    // The row of this number, of which the last one may be shorter.
+    fn row(self, number: u64) -> Area {
+        let done = number.saturating_mul(ROW as u64);
+        Area {
+            pid: self.pid,
+            address: self.address.wrapping_add(done),
+            size: self.size.saturating_sub(done).min(ROW as u64),
+        }
     }
+}
+
+// What a call that returned wrote.
+fn written(asked: &Asked, answer: i64) -> Option<Area> {
+    let [first, second, ..] = asked.arguments;
+    let (address, size) = match asked.call()? {
+        Call::Read if answer >= 0 => (second, answer.cast_unsigned()),
+        Call::Wait if answer > 0 && first != 0 => (first, 4),
+        Call::Pipe if answer == 0 => (first, 8),
+        Call::Fstat if answer == 0 => (second, STAT_SIZE),
+        _ => return None,
+    };
+    Some(Area {
+        pid: asked.pid,
+        address,
+        size,
+    })
 }
 
 // Where a process goes on by the log: one that waits in a call has not come past its ecall.
@@ -121,24 +146,20 @@ impl<S: Sinks + Drop> Tracer<S> {
         asked: &Asked,
         answer: i64,
     ) {
-        if let Some((address, count)) = written(asked, answer) {
-            self.log_memory(machine, asked.pid, address, count, true);
+        if let Some(area) = written(asked, answer) {
+            self.log_memory(machine, area, true);
         }
     }
 
-    // Writes bytes of the memory of a process in rows, also those of zeros where all are wanted.
+    // Writes bytes in rows, also those of zeros where all are wanted.
     fn log_memory<D: BlockDev, T: Translate>(
         &mut self,
         machine: &Machine<D, T>,
-        pid: u32,
-        address: u64,
-        count: u64,
+        area: Area,
         is_whole: bool,
     ) {
-        for row in 0..count.div_ceil(ROW as u64) {
-            let done = row.saturating_mul(ROW as u64);
-            let size = count.saturating_sub(done).min(ROW as u64) as usize;
-            self.log_row(machine, pid, address.wrapping_add(done), size, is_whole);
+        for number in 0..area.size.div_ceil(ROW as u64) {
+            self.log_row(machine, area.row(number), is_whole);
         }
     }
 
@@ -146,13 +167,12 @@ impl<S: Sinks + Drop> Tracer<S> {
     fn log_row<D: BlockDev, T: Translate>(
         &mut self,
         machine: &Machine<D, T>,
-        pid: u32,
-        address: u64,
-        size: usize,
+        area: Area,
         is_whole: bool,
     ) {
+        let Area { pid, address, size } = area;
         let mut row = [0; ROW];
-        let Some(bytes) = row.get_mut(..size) else {
+        let Some(bytes) = row.get_mut(..size as usize) else {
             return;
         };
         if read(machine, pid, address, bytes).is_some() && (is_whole || !is_blank(bytes)) {
@@ -186,8 +206,12 @@ impl<S: Sinks + Drop> Tracer<S> {
         self.log(pid, Note::Counter(counter_of(&seen)));
         self.log_registers(pid, &seen.registers);
         for page in 0..seen.size.div_ceil(PAGE_SIZE) {
-            let address = page.saturating_mul(PAGE_SIZE);
-            self.log_memory(machine, pid, address, PAGE_SIZE, false);
+            let area = Area {
+                pid,
+                address: page.saturating_mul(PAGE_SIZE),
+                size: PAGE_SIZE,
+            };
+            self.log_memory(machine, area, false);
         }
     }
 

@@ -52,3 +52,12 @@ returns-in-At-clause-at g c = rw c.in-At.is c.goes_to_word.ensures.at
 
 pub returns-in-At-clause-past : goal.returns-in-At-clause-past
 returns-in-At-clause-past g c = rw c.in-At.is c.goes_to_word.ensures.past
+
+pub returns-in-Within-clause-done : goal.returns-in-Within-clause-done
+returns-in-Within-clause-done g c = jumps c.args.next.now c.goes_to_index.result (rw c.in-Within.is refl)
+
+pub returns-in-Within-clause-at : goal.returns-in-Within-clause-at
+returns-in-Within-clause-at g c = rw c.in-Within.is c.goes_to_index.ensures.at
+
+pub returns-in-Within-clause-past : goal.returns-in-Within-clause-past
+returns-in-Within-clause-past g c = rw c.in-Within.is c.goes_to_index.ensures.past

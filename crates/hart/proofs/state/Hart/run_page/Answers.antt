@@ -1,5 +1,5 @@
-use Rattle.hart.proofs.Common.{arith, GoesOn, goes_to, IsClear, List, Mapped, Fetch, frame_for, None, pc_at, point_at}
-use Rattle.hart.proofs.Common.{refl, Some, StayLive, sym, trap_of, ℕ, ◌+◌, ◌-◌, ◌/◌, ◌<◌, ◌≡◌, ◌≤◌}
+use Rattle.hart.proofs.Common.{arith, GoesOn, goes_to, Hart, IsClear, List, Mapped, Fetch, frame_for, None, pc_at}
+use Rattle.hart.proofs.Common.{point_at, refl, Some, StayLive, sym, trap_of, ℕ, ◌*◌, ◌+◌, ◌-◌, ◌/◌, ◌<◌, ◌≡◌, ◌≤◌}
 use Rattle.hart.proofs.Straight.{free-clear, if-none, if-some, left-begins, left-on, moves-some, page-then, pc-of}
 use Rattle.hart.proofs.Straight.{stop-behind, stops-early, stops-there}
 use Rattle.hart.proofs.Pages.{stay-then}
@@ -7,20 +7,25 @@ use Rattle.hart.proofs.state.Hart.run_page.Given as given
 use Rattle.hart.proofs.state.Hart.run_page.Goals as goal
 use Rattle.hart.proofs.state.Hart.run_page.Goals.{After-straight-done}
 
+-- the address of the page of a hart's pc
+abbrev page_of : Hart → ℕ
+page_of hart = hart.pc / 4096 * 4096
+
 -- up to there none is at a stop
 clear : (g : given.Over) (c : After-straight-done g) (end : ℕ) → end ≤ c.first_of-end.result
-    → IsClear (g.S.Stops.addresses c.args.stops.now) c.args.base c.loop-k.k end
+    → IsClear (g.S.Stops.addresses c.args.stops.now) (page_of c.args.self.now) c.loop-k.k end
 clear g c end within =
-    free-clear _ _ c.loop-k.invariant.since
-    (omega (arith, within, c.first_of-end.ensures.end, c.first_of.ensures.limit)) c.loop-k.invariant.free.here
+    free-clear _ _ c.loop-k.invariant.since (omega (arith, within, c.first_of-end.ensures.end))
+    (c.free_to.ensures.free (page_of c.args.self.now) c.loop-k.invariant.free)
 
 -- the operations that were done
 went : (g : given.Over) (c : After-straight-done g) (mapping : List Mapped)
-    → frame_for mapping (c.args.base / 4096) Fetch ≡ Some c.args.f.0
+    → frame_for mapping ((page_of c.args.self.now) / 4096) Fetch ≡ Some c.args.f.0
     → GoesOn (g.T.Translate.held c.loop-k.trans) (g.T.Translate.held c.straight-done.new.trans) c.loop-k.self.root.0
-    mapping (g.S.Stops.addresses c.args.stops.now) (point_at c.loop-k.self (pc_at c.args.base c.loop-k.k) c.loop-k.ram)
+    mapping (g.S.Stops.addresses c.args.stops.now)
+    (point_at c.loop-k.self (pc_at (page_of c.args.self.now) c.loop-k.k) c.loop-k.ram)
     (point_at c.straight-done.new.self
-    (goes_to (pc_at c.args.base (c.loop-k.k + c.straight-done.result.0)) c.straight-done.result.1)
+    (goes_to (pc_at (page_of c.args.self.now) (c.loop-k.k + c.straight-done.result.0)) c.straight-done.result.1)
     c.straight-done.new.ram) c.straight-done.result.0 (trap_of c.straight-done.result.1)
 went g c mapping at = c.straight-done.ensures.goes mapping _ at (clear g c _ c.straight-done.ensures.within)
 
@@ -40,7 +45,7 @@ stayed g c frames = stay-then c.args.f.0 c.args.live.now.frames c.loop-k.live.fr
 pub loop-k-init : goal.loop-k-init
 loop-k-init g c = record {
   goes = left-begins _ _ c.requires.inside
-      (pc-of (omega arith) c.args.self.now.aligned (sym c.requires.start) refl) (omega arith);
+      (pc-of (omega arith) c.args.self.now.aligned (refl) refl) (omega arith);
   below = omega arith;
   bounded = omega arith;
   counted = omega arith;
@@ -60,7 +65,7 @@ loop-k-init g c = record {
 pub straight-done-requires-clause-now : goal.straight-done-requires-clause-now
 straight-done-requires-clause-now g c = λ j since less.
     c.reach-known.ensures.now j since
-    (omega (arith, less, c.first_of-end.ensures.end, c.first_of.ensures.end))
+    (omega (arith, less, c.first_of-end.ensures.end, c.free_to.ensures.within))
 
 pub onward-requires-clause-from : goal.onward-requires-clause-from
 onward-requires-clause-from g c = λ none.
@@ -73,8 +78,8 @@ loop-k-preserved g c =
     let more = some g after c.in-Some.ensures.done in
     record {
       goes = left-on c.straight-done.new.self c.loop-k.k c.in-Some.index
-          (goes_to (pc_at c.args.base (c.loop-k.k + c.straight-done.result.0)) c.straight-done.result.1)
-          c.straight-done.new.ram c.loop-k.invariant.goes c.requires.start more
+          (goes_to (pc_at (page_of c.args.self.now) (c.loop-k.k + c.straight-done.result.0)) c.straight-done.result.1)
+          c.straight-done.new.ram c.loop-k.invariant.goes refl more
           (omega (arith, c.straight-done.ensures.within, c.first_of-end.ensures.limit)) c.straight-done.ensures.whole
           c.in-Some.ensures.past c.in-Some.ensures.at.1
           (λ mapping at. rw c.in-Some.ensures.done at (went g after mapping at));
@@ -94,8 +99,8 @@ returns-in_default-clause-goes g c =
     let after = (goal.at.returns-in_default-clause-goes g c).After-straight-done in
     rw (c.trap.ensures, c.address-self.ensures)
     (page-then c.straight-done.new.self c.straight-done.result.0 _ c.loop-k.k
-    (goes_to (pc_at c.args.base (c.loop-k.k + c.straight-done.result.0)) c.straight-done.result.1)
-    c.straight-done.new.ram (trap_of c.straight-done.result.1) c.loop-k.invariant.goes c.requires.start refl
+    (goes_to (pc_at (page_of c.args.self.now) (c.loop-k.k + c.straight-done.result.0)) c.straight-done.result.1)
+    c.straight-done.new.ram (trap_of c.straight-done.result.1) c.loop-k.invariant.goes refl refl
     (omega (arith, c.straight-done.ensures.within, c.first_of-end.ensures.limit)) (went g after))
 
 pub returns-in_default-clause-checked : goal.returns-in_default-clause-checked
@@ -124,7 +129,8 @@ returns-in_default-clause-behind g c =
     let early = stops-early c.straight-done.result.1 {words = c.first_of-end.result - c.loop-k.k}
     c.straight-done.ensures.moves stopped in
     rw (c.address-self.ensures, stops-there c.straight-done.result.1 stopped)
-    (stop-behind c.args.base c.loop-k.k c.first_of-end.result c.straight-done.result.0 _ c.loop-k.invariant.goes refl
+    (stop-behind (page_of c.args.self.now) c.loop-k.k c.first_of-end.result c.straight-done.result.0 _
+    c.loop-k.invariant.goes refl
     early (omega (arith, c.straight-done.ensures.within, c.first_of-end.ensures.limit))
     (clear g after c.first_of-end.result (omega arith)))))
 

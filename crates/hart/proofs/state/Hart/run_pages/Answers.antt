@@ -26,7 +26,7 @@ pub run_page-rest-requires-clause-inside : goal.run_page-rest-requires-clause-in
 run_page-rest-requires-clause-inside g c = inside-kept _ c.loop-left.invariant.whole.inside c.locate.ensures.kept
 
 pub run_page-rest-requires-clause-checked : goal.run_page-rest-requires-clause-checked
-run_page-rest-requires-clause-checked g c = rw c.index_mut.ensures.value
+run_page-rest-requires-clause-checked g c = rw c.index_mut-page.ensures.value
     (c.place-at.ensures.known c.loop-left.ram c.loop-left.invariant.known c.in-Some.f.0
     (omega (arith, c.in-Some.ensures.inside, c.frames_are_whole.ensures.small)) c.place-at.ensures.live
     c.place-at.result c.place-at.ensures.page _)

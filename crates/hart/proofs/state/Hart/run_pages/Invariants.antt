@@ -6,7 +6,7 @@ use Rattle.hart.proofs.state.Hart.run_pages.Given as goal
 abbrev pub invariant-loop-left : goal.invariant-loop-left
 invariant-loop-left g l = record {
   bounded : l.left ≤ l.count;
-  many : vec_len l.pages.all ≡ 64;
+  many : vec_len l.pages.all ≡ 128;
   known : AreKnown l.live.frames l.pages.sets l.pages.all.items l.ram;
   whole : StaysWhole (g.T.Translate.held l.trans) l.fn.self l.self l.fn.ram l.ram;
   behind : IsBehind (g.S.Stops.addresses l.stops) (l.count - l.left) l.fn.self.pc l.self.pc;
