@@ -43,7 +43,7 @@ unfoldable pub use Rattle.hart.specs.Answered.{act_by, cycle_by}
 pub use Rattle.hart.specs.Checked.{AreChecked, AreNow, StayLive}
 pub use Rattle.hart.specs.Changes.{changed, IsAlone, IsSound, IsStore, put_in, Stores, WritesOnly, WritesPage}
 pub use Rattle.hart.specs.Follows.{Follows}
-pub use Rattle.hart.specs.Operations.{IsOp}
+pub use Rattle.hart.specs.Operations.{AreOps, IsOp}
 unfoldable pub use Rattle.hart.specs.Operations.{op_by}
 pub use Rattle.hart.specs.Stops.{AreFree, EndsAt, IsBehind, IsClear, IsFree, IsPast, is_stop, pc_at}
 pub use Rattle.hart.specs.Runs.{Goes, GoesOn, MovesOn, Point, point_at, point_of, StaysWhole, word_in}

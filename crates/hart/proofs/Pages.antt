@@ -1,12 +1,14 @@
 -- Words of a page and their operations.
-use Rattle.hart.proofs.Common.{and_parts, ap, AreChecked, AreNow, arith, Bool, cases_eq, cases_lt, eqb-true, false}
-use Rattle.hart.proofs.Common.{get_or-set_other, get_or-set_same, inl, inr, instruction_of, IsLive, IsOp, length, List}
+use Rattle.hart.proofs.Common.{Acts, and_parts, ap, AreChecked, AreNow, arith, Bool, cases_eq, cases_lt, drop, eqb-true}
+use Rattle.hart.proofs.Common.{false, get_or-set_other, get_or-set_same, Hart, Held, inl, inr, instruction_of, IsLive}
+use Rattle.hart.proofs.Common.{IsOp}
+use Rattle.hart.proofs.Common.{length, List, Next, None, trap_of, word_by, ◌/◌}
 use Rattle.hart.proofs.Common.{Op, op_by, Ram, refl, slice_index, slice_index_or, slice_set, StayLive, subst, sym, true}
 use Rattle.hart.proofs.Common.{word_of, ℕ, ◌%◌, ◌&&◌, ◌*◌, ◌+◌, ◌<◌, ◌==◌, ◌∙◌, ◌≡◌, ◌≢◌, ◌≤◌, ◌⊎◌}
 use Rattle.std.proofs.Math.ListN.{replicate}
-use Rattle.std.proofs.lemmas.List.{get_or-replicate}
+use Rattle.std.proofs.lemmas.List.{get_or-drop, get_or-replicate, length-drop}
 use Rattle.hart.specs.Known.{AreKnown, IsPage}
-use Rattle.hart.specs.Operations.{AreDecoded}
+use Rattle.hart.specs.Operations.{AreDecoded, AreOps}
 use Rattle.hart.specs.declared.live.Set.{Set}
 use Rattle.hart.specs.declared.operation.Op.TheVariants as op
 use Rattle.hart.specs.declared.page.Page.{Page}
@@ -16,41 +18,69 @@ none_decoded : IsOp op.Illegal 0
 unfolding op_by instruction_of
 none_decoded regs pc see = refl
 
-pub all_none : AreDecoded (replicate 1024 0) (replicate 1024 op.Illegal)
-all_none k d within =
-    let words = get_or-replicate 1024 k 0 0 within in
-    let ops = get_or-replicate 1024 k op.Illegal d within in
-    subst (λ o. IsOp o (slice_index (replicate 1024 0) k)) (sym ops)
-    (subst (λ w. IsOp op.Illegal w) (sym words) none_decoded)
+-- it does not go on
+pub none-goes : {held held' : Held} (regs : List ℕ) {next : Next} (pc : ℕ) {old new : Hart} {ram ram' : Ram}
+    → Acts held held' (word_by (instruction_of 0) regs pc) next pc old new ram ram' → trap_of next ≡ None → ⊥
+unfolding instruction_of
+none-goes regs pc acts none = absurd (cc (none, acts.does.0))
+
+pub all_none : AreDecoded (replicate 1024 0) (replicate 1040 op.Illegal)
+all_none = record {
+  of_words = λ k d within.
+      let ops = get_or-replicate 1040 (k + k / 64) op.Illegal d (omega (arith, within)) in
+      let words = get_or-replicate 1024 k 0 0 within in
+      subst (λ o. IsOp o (slice_index (replicate 1024 0) k)) (sym ops)
+      (subst (λ w. IsOp op.Illegal w) (sym words) none_decoded);
+  of_ends = λ part d within.
+      let ops = get_or-replicate 1040 (65 * part + 64) op.Illegal d (omega (arith, within)) in
+      subst (λ o. IsOp o 0) (sym ops) none_decoded;
+}
 
 -- one word is decoded anew
 pub one_decoded : (words : List ℕ) (ops : List Op) (i word : ℕ) (o : Op) → AreDecoded words ops
-    → length words ≡ 1024 → length ops ≡ 1024 → i < 1024 → IsOp o word
-    → AreDecoded (slice_set words i word) (slice_set ops i o)
-one_decoded words ops i word o before w_long o_long within is k d below = elim (cases_eq k i) [
-  | inl same ↦
-      let new_word : slice_index (slice_set words i word) k ≡ word =
-      subst (λ j. slice_index (slice_set words i word) j ≡ word) (sym same)
-      (get_or-set_same words i word 0 (subst (λ n. i < n) (sym w_long) within)) in
-      let new_op : slice_index_or (slice_set ops i o) k d ≡ o =
-      subst (λ j. slice_index_or (slice_set ops i o) j d ≡ o) (sym same)
-      (get_or-set_same ops i o d (subst (λ n. i < n) (sym o_long) within)) in
-      subst (λ p. IsOp p (slice_index (slice_set words i word) k)) (sym new_op)
-      (subst (λ w. IsOp o w) (sym new_word) is)
-  | inr other ↦
-      let old_word : slice_index (slice_set words i word) k ≡ slice_index words k =
-      get_or-set_other words i k word 0 other in
-      let old_op : slice_index_or (slice_set ops i o) k d ≡ slice_index_or ops k d =
-      get_or-set_other ops i k o d other in
-      subst (λ p. IsOp p (slice_index (slice_set words i word) k)) (sym old_op)
-      (subst (λ w. IsOp (slice_index_or ops k d) w) (sym old_word) (before k d below))
-]
+    → length words ≡ 1024 → length ops ≡ 1040 → i < 1024 → IsOp o word
+    → AreDecoded (slice_set words i word) (slice_set ops (i + i / 64) o)
+one_decoded words ops i word o before w_long o_long within is = record {
+  of_words = λ k d below. elim (cases_eq k i) [
+    | inl same ↦
+        let new_word : slice_index (slice_set words i word) k ≡ word =
+        subst (λ j. slice_index (slice_set words i word) j ≡ word) (sym same)
+        (get_or-set_same words i word 0 (omega (arith, w_long, within))) in
+        let new_op : slice_index_or (slice_set ops (i + i / 64) o) (k + k / 64) d ≡ o =
+        subst (λ j. slice_index_or (slice_set ops (i + i / 64) o) (j + j / 64) d ≡ o) (sym same)
+        (get_or-set_same ops (i + i / 64) o d (omega (arith, o_long, within))) in
+        subst (λ p. IsOp p (slice_index (slice_set words i word) k)) (sym new_op)
+        (subst (λ w. IsOp o w) (sym new_word) is)
+    | inr other ↦
+        let old_word : slice_index (slice_set words i word) k ≡ slice_index words k =
+        get_or-set_other words i k word 0 other in
+        let old_op : slice_index_or (slice_set ops (i + i / 64) o) (k + k / 64) d ≡ slice_index_or ops (k + k / 64) d =
+        get_or-set_other ops (i + i / 64) (k + k / 64) o d (λ same. other (omega (arith, same))) in
+        subst (λ p. IsOp p (slice_index (slice_set words i word) k)) (sym old_op)
+        (subst (λ w. IsOp (slice_index_or ops (k + k / 64) d) w) (sym old_word) (before.of_words k d below))
+  ];
+  of_ends = λ part d below.
+      let old_op : slice_index_or (slice_set ops (i + i / 64) o) (65 * part + 64) d
+      ≡ slice_index_or ops (65 * part + 64) d =
+      get_or-set_other ops (i + i / 64) (65 * part + 64) o d (λ same. omega (arith, same)) in
+      subst (λ p. IsOp p 0) (sym old_op) (before.of_ends part d below);
+}
 
--- the operation that is read
-pub one_read : (words : List ℕ) (ops : List Op) (k : ℕ) (o : Op) → AreDecoded words ops → k < 1024
-    → slice_index_or ops k o ≡ o → IsOp o (slice_index words k)
-one_read words ops k o are within read =
-    subst (λ p. IsOp p (slice_index words k)) read (are k o within)
+-- the operations of a part are those of the page from its number on
+pub part-ops : (words : List ℕ) (ops : List Op) (part : ℕ) → AreDecoded words ops → length ops ≡ 1040 → part < 16
+    → AreOps words part (drop part ops)
+part-ops words ops part are long within = record {
+  long = rw (length-drop part ops) (omega (arith, long, within));
+  of_words = λ k d since less.
+      let there : part + k ≡ k + k / 64 = omega (arith, since, less) in
+      subst (λ p. IsOp p (slice_index words k))
+      (sym (get_or-drop part ops k d ∙ ap (λ j. slice_index_or ops j d) there))
+      (are.of_words k d (omega (arith, within, less)));
+  of_end = λ d.
+      let there : part + (64 * part + 64) ≡ 65 * part + 64 = omega arith in
+      subst (λ p. IsOp p 0) (sym (get_or-drop part ops (64 * part + 64) d ∙ ap (λ j. slice_index_or ops j d) there))
+      (are.of_ends part d within);
+}
 
 -- ---- words of a frame
 

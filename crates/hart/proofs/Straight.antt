@@ -361,6 +361,24 @@ module _ {held held' held'' : Held} {next : Next} {first old new : Hart} {ram ra
       rw (← root-first) (goes-not (rw (← root-first) at (straight.goes mapping stops at clear n start past g).0)
       place-found acts t some)
 
+-- what comes after the words of a part changes nothing
+pub straight-ends : {held held' held'' : Held} {meaning : Sight → Effect} {t : Trap} {pc : ℕ} {first old new : Hart}
+    {ram ram' ram'' : Ram} {base from k f : ℕ} → GoesStraight held held' first old ram ram' base from k f
+    → Acts held' held'' meaning (Stop t) pc old new ram' ram''
+    → GoesStraight held held'' first new ram ram'' base from k f
+straight-ends {held''} {meaning} {t} {pc} {first} {old} {new} {ram'} straight acts =
+    let root : old.root.0 ≡ first.root.0 = ap (λ (r : FrameNo). r.0) straight.whole.root in
+    let not = leaves-not (meaning (seen ram' acts.answers)) acts.answers (Stop t) pc old new refl acts.does in
+    record {
+      whole = whole-after straight.whole acts;
+      goes = λ mapping stops at clear n start past g.
+          rw (not.1, not.2) (
+            goes-kept (straight.goes mapping stops at clear n start past g).0 held''
+                (rw root at acts.kept),
+            tt,
+          );
+    }
+
 -- the next index
 pub straight-more : {held held' held'' : Held} {first old new : Hart} {ram ram' ram'' : Ram} {base from k f : ℕ}
     → IsMemory ram' → base % 4096 ≡ 0 → base < 2 ^ 64 → k < 1024 → from ≤ k

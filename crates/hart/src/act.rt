@@ -12,7 +12,7 @@ ghost use Rattle.hart.specs.Stops.{pc_at};
 ghost use Rattle.hart.specs.Operations.{by_branch, by_registers, by_words, offset_by, op_by};
 
 use crate::access::{is_aligned, load_size, load_value, locate, place, store_size, store_value};
-use crate::in_page::{InPage, Part};
+use crate::in_page::{InPage, Part, Pc};
 use crate::live::Live;
 use crate::operation::{Op, Target};
 use crate::state::Hart;
@@ -220,7 +220,7 @@ impl Hart {
 
     // One to an offset from the pc.
     #[inline(always)]
-    fn go_by(&self, pc: InPage, imm: u32) -> Next
+    fn go_by(&self, pc: Pc, imm: u32) -> Next
         ensures { Turns (jump self.now.registers (pc_at pc.base pc.index) 0
             (plus (pc_at pc.base pc.index) (extend 32 imm))) result (pc_at pc.base pc.index) self.now self.now }
     {
@@ -244,7 +244,7 @@ impl Hart {
 
     // One to an offset from the pc that leaves the address of the next instruction.
     #[inline(always)]
-    fn link_by(&mut self, rd: Target, pc: InPage, imm: u32) -> Next
+    fn link_by(&mut self, rd: Target, pc: Pc, imm: u32) -> Next
         ensures { Turns (jump self.old.registers (pc_at pc.base pc.index) rd
             (plus (pc_at pc.base pc.index) (extend 32 imm))) result (pc_at pc.base pc.index) self.old self.new }
     {
@@ -264,7 +264,7 @@ impl Hart {
 
     // Only a branch that is taken can have a wrong target.
     #[inline(always)]
-    fn go_if(&self, op: BranchOp, rs1: Reg, rs2: Reg, pc: InPage, imm: u32) -> Next
+    fn go_if(&self, op: BranchOp, rs1: Reg, rs2: Reg, pc: Pc, imm: u32) -> Next
         ensures { Turns (by_branch op rs1 rs2 (extend 32 imm) self.now.registers (pc_at pc.base pc.index)) result
             (pc_at pc.base pc.index) self.now self.now }
     {
@@ -347,7 +347,7 @@ impl Hart {
     pub fn act<T: Translate, Caller>(
         &mut self,
         op: &Op,
-        pc: InPage,
+        pc: Pc,
         ram: &mut Ram,
         trans: &mut T,
     ) -> Next

@@ -6,7 +6,7 @@ ghost use Rattle.hart.specs.Known.{AreKnown, IsPage};
 use crate::in_page::PART;
 use crate::live::{Live, SETS, Set, WAYS};
 use crate::operation::Op;
-use crate::page::{Page, WORDS};
+use crate::page::{OPS, Page, WORDS};
 use std::alloc::{AllocError, Global};
 use std::marker::Model;
 
@@ -67,7 +67,7 @@ impl Decoded {
             // the word 0 is no instruction
             all.push(Page {
                 words: [0; WORDS],
-                ops: [Op::Illegal; WORDS],
+                ops: [Op::Illegal; OPS],
                 parts: [false; WORDS / PART],
             })?;
         }

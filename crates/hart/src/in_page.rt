@@ -1,5 +1,5 @@
 //! Addresses by their page and their index in it.
-ghost use Rattle.std.specs.Prelude.{◌≡◌, ◌%◌, ◌/◌, ◌<◌, IfSome};
+ghost use Rattle.std.specs.Prelude.{◌≡◌, ◌%◌, ◌*◌, ◌+◌, ◌/◌, ◌<◌, ◌≤◌, IfSome};
 ghost use Rattle.unixmodel.specs.Numbers.{extend, plus};
 ghost use Rattle.hart.specs.Stops.{pc_at};
 
@@ -55,9 +55,18 @@ impl Part {
     {
         self.number
     }
+
+    /// The index after its last word.
+    #[inline(always)]
+    pub fn end(self) -> usize
+        ensures is { result ≡ 64 * self + 64 }
+        ensures within { result ≤ 1024 }
+    {
+        PART * self.number + PART
+    }
 }
 
-/// The address of a word of a page. It is added up only where it is asked for, which few operations do.
+/// The address of a word of a page.
 #[derive(Clone, Copy)]
 pub struct InPage {
     /// The address of the page.
@@ -69,13 +78,36 @@ pub struct InPage {
 }
 
 impl InPage {
-    /// That of a pc.
+    /// The number.
     #[inline(always)]
-    pub fn of(pc: u64) -> InPage
+    pub fn address(self) -> u64
+        ensures is { result ≡ pc_at self.base self.index }
+        ensures aligned { result % 4 ≡ 0 }
+    {
+        self.base.wrapping_add(4 * self.index as u64)
+    }
+}
+
+/// A pc as a page and an index in it, which may be the one after the page's last word. The address is added up only
+/// where it is asked for, which few operations do.
+#[derive(Clone, Copy)]
+pub struct Pc {
+    /// The address of the page.
+    pub base: u64,
+    /// The index of the word there.
+    pub index: usize,
+    ghost inside: { index ≤ 1024 },
+    ghost start: { base % 4096 ≡ 0 },
+}
+
+impl Pc {
+    /// That of an address.
+    #[inline(always)]
+    pub fn of(pc: u64) -> Pc
         requires { pc % 4 ≡ 0 }
         ensures { pc_at result.base result.index ≡ pc }
     {
-        InPage {
+        Pc {
             base: pc / 4096 * 4096,
             index: (pc % 4096 / 4) as usize,
         }

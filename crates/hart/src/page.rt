@@ -1,8 +1,8 @@
 //! The decoded words of a page.
-ghost use Rattle.std.specs.Prelude.{◌≡◌, ◌<◌, ◌≤◌, ◌+◌, ◌*◌, ◌⊎◌, ℕ, List, length, slice_index, true};
+ghost use Rattle.std.specs.Prelude.{◌≡◌, ◌<◌, ◌≤◌, ◌+◌, ◌*◌, ◌/◌, ◌⊎◌, ℕ, List, length, slice_index, true};
 ghost use Rattle.hart.specs.Acts.{IsLive, KeepsLive};
 ghost use Rattle.hart.specs.Checked.{AreChecked, AreNow, StayLive};
-ghost use Rattle.hart.specs.Operations.{AreDecoded, IsOp};
+ghost use Rattle.hart.specs.Operations.{AreDecoded, AreOps};
 
 use crate::act::Next;
 use crate::decoding::flatten;
@@ -14,11 +14,15 @@ use ram::{FrameNo, Ram};
 /// How many words a page has.
 pub const WORDS: usize = 1024;
 
+/// How many operations a page has: those of its words, and one after those of each part.
+pub const OPS: usize = WORDS + WORDS / PART;
+
 /// The words of a page and their operations.
 #[derive(Drop)]
 pub struct Page {
     pub words: [u32; WORDS],
-    pub ops: [Op; WORDS],
+    /// The operations of each part's words, and after them one that is no instruction: what goes on there stops.
+    pub ops: [Op; OPS],
     /// Which parts are known to have the words of the page's frame.
     pub parts: [bool; WORDS / PART],
     ghost decoded: { AreDecoded words ops },
@@ -33,7 +37,7 @@ impl Page {
         ensures others { (j : ℕ) → (j ≡ k → ⊥) → slice_index self.new.words j ≡ slice_index self.old.words j }
         ensures parts { self.new.parts ≡ self.old.parts }
     {
-        self.ops[k] = flatten(word);
+        self.ops[k + k / PART] = flatten(word);
         self.words[k] = word;
     }
 
@@ -81,24 +85,21 @@ impl Page {
         }
     }
 
-    /// An index after `k` up to which decoded words are those of the frame: they are checked if that is not known.
+    /// The part of word `k`. Its decoded words are those of the frame: they are checked if that is not known.
     #[inline(always)]
-    pub fn reach(&mut self, ram: &Ram, f: FrameNo, k: usize) -> usize
+    pub fn reach(&mut self, ram: &Ram, f: FrameNo, k: usize) -> Part
         requires frame { f.0 < length ram.now }
         requires place { k < 1024 }
         requires checked { AreChecked self.old.words ram.now f.0 self.old.parts }
         ensures checked { AreChecked self.new.words ram.now f.0 self.new.parts }
-        ensures after { k < result }
-        ensures within { result ≤ 1024 }
-        ensures now { AreNow self.new.words ram.now f.0 k result }
+        ensures part { result ≡ k / 64 }
+        ensures now { AreNow self.new.words ram.now f.0 (64 * result) (64 * result + 64) }
     {
-        let part = Part::of_word(k).number();
-        let end = PART * part + PART;
-        if self.parts[part] {
-            return end;
+        let part = Part::of_word(k);
+        if !self.parts[part.number()] {
+            self.check(ram, f, part.number());
         }
-        self.check(ram, f, part);
-        end
+        part
     }
 
     #[cold]
@@ -143,13 +144,12 @@ impl Page {
         self.parts = [false; WORDS / PART];
     }
 
-    /// The operation of word `k`, as it was decoded.
+    /// The operations of a part, as they were decoded, by the indices of its words in the page, and the one after them.
     #[inline(always)]
-    #[tactic(auto, using(crate::proofs::Pages::one_read))]
-    pub fn op(&self, k: usize) -> &Op
-        requires { k < 1024 }
-        ensures { IsOp result.now (slice_index self.now.words k) }
+    pub fn ops_of(&self, part: Part) -> &[Op]
+        ensures { AreOps self.now.words part result.now }
     {
-        &self.ops[k]
+        let ops = &self.ops[..];
+        &ops[part.number()..]
     }
 }

@@ -3,22 +3,24 @@
 //! The loop over the operations of a page has the registers, the memory, the translator and the decoded words in
 //! references of their own, and the index in the page as a local. A jump in the page leads to another index, and a
 //! hart's pc is written where the page is left.
-ghost use Rattle.std.specs.Prelude.{◌≡◌, ◌%◌, ◌/◌, ◌<◌, ◌≤◌, ◌+◌, ◌-◌, ◌*◌, ℕ, Err, IfNone, IfSome, List, None, Some};
-ghost use Rattle.std.specs.Prelude.{false, length, slice_index, vec_len};
+ghost use Rattle.std.specs.Prelude.{◌≡◌, ◌%◌, ◌/◌, ◌<◌, ◌≤◌, ◌+◌, ◌-◌, ◌*◌, ◌^◌, ◌⊎◌, ℕ, [], List, length};
+ghost use Rattle.std.specs.Prelude.{Err, IfNone, IfSome, None, Some, false, slice_index_or, vec_len};
 ghost use Rattle.unixmodel.specs.Translation.{HoldsInside};
 ghost use Rattle.unixmodel.specs.Words.{instruction_of};
 ghost use Rattle.sv39.specs.Mapping.{Mapped, frame_for};
 ghost use Rattle.hart.specs.Acts.{Acts, IsLive, KeepsLive, goes_to, trap_of};
 ghost use Rattle.hart.specs.Answered.{word_by};
 ghost use Rattle.hart.specs.Checked.{AreChecked, AreNow, StayLive};
+ghost use Rattle.hart.specs.Operations.{op_by};
 ghost use Rattle.hart.specs.Runs.{GoesOn, MovesOn, StaysWhole, point_at, point_of};
 ghost use Rattle.hart.specs.Stops.{AreFree, EndsAt, IsBehind, IsClear, is_stop, pc_at};
 
 use crate::access::locate;
 use crate::act::{Aligned, Next};
 use crate::decoded::{Decoded, Pages};
-use crate::in_page::InPage;
+use crate::in_page::{InPage, PART, Part, Pc};
 use crate::live::Live;
+use crate::operation::Op;
 use crate::page::Page;
 use crate::state::Hart;
 use crate::stops::{Known, Stops, Stretch};
@@ -123,12 +125,39 @@ fn within(k: usize, known: Known) -> Option<(usize, Known)>
     }
 }
 
+// The index up to which operations of the part of word `k` are done at once: the end of the part, or an earlier one where
+// no more operations are left or a stretch without a stop ends.
+#[inline(always)]
+fn end_of<S: Stops, const LEAST: usize>(
+    stops: &S,
+    free: Known,
+    part: Part,
+    k: usize,
+    left: usize,
+) -> usize
+    requires least { (LEAST ≡ 1) ⊎ ((LEAST ≡ 64) × (S.addresses stops.now ≡ [])) }
+    requires part { part ≡ k / 64 }
+    requires some { (LEAST ≤ left) × (left < 2 ^ 32) }
+    requires free { (free.here.from ≤ k + 1) × (k < free.here.to) }
+    ensures after { k < result }
+    ensures left { result ≤ k + left }
+    ensures end { (result ≤ 64 * part + 64) × (result ≤ 1024) }
+    ensures whole { (LEAST ≡ 1) ⊎ (result ≡ 64 * part + 64) }
+    ensures clear { (base : ℕ) → AreFree (S.addresses stops.now) base free →
+        IsClear (S.addresses stops.now) base k result }
+{
+    if LEAST == PART {
+        return part.end();
+    }
+    first_of(k, k + left, stops.free_to(free, part.end()))
+}
+
 impl Hart {
-    // Does the operation of word `k` of the page at address `base`. Of stores only those to known pages are reported.
+    // Does the operation of index `k` of the page at address `base`. Of stores only those to known pages are reported.
     #[inline(always)]
-    fn obey<T: Translate, S>(
+    fn obey<T: Translate, Caller>(
         &mut self,
-        page: &Page,
+        ops: &[Op],
         live: &Live,
         base: u64,
         k: usize,
@@ -136,23 +165,25 @@ impl Hart {
         trans: &mut T,
     ) -> Next
         requires inside { HoldsInside (T.held trans.old) ram.old }
-        requires place { k < 1024 }
+        requires place { (k < length ops.now) × (k ≤ 1024) }
         requires page { base % 4096 ≡ 0 }
-        ensures acts { Acts (T.held trans.old) (T.held trans.new)
-            (word_by (instruction_of (slice_index page.now.words k)) self.old.registers (pc_at base k))
-            result (pc_at base k) self.old self.new ram.old ram.new }
+        ensures acts { (d : Op) → Acts (T.held trans.old) (T.held trans.new)
+            (op_by (slice_index_or ops.now k d) self.old.registers (pc_at base k)) result (pc_at base k)
+            self.old self.new ram.old ram.new }
         ensures words { KeepsLive result live.now.frames ram.old ram.new }
     {
-        let next = self.act::<T, S>(page.op(k), InPage { base, index: k }, ram, trans);
+        let next = self.act::<T, Caller>(&ops[k], Pc { base, index: k }, ram, trans);
         next.seen_live(live)
     }
 
-    // Does operations of the page at `base`, which has frame `f`, from one index to another or to the first that jumps
-    // or stores to a known page. Returns how many were done, and where it goes on.
+    // Does operations of a part of the page at `base`, which has frame `f`, from one index to another or to the first
+    // that jumps or stores to a known page. Returns how many were done, and where it goes on. Each word is tested for
+    // the end where that may lie within the part; after the part's words is an operation that traps.
     #[inline(always)]
-    fn straight<T: Translate, S>(
+    fn straight<T: Translate, Caller, const LEAST: usize>(
         &mut self,
         page: &Page,
+        part: Part,
         f: FrameNo,
         live: &Live,
         base: u64,
@@ -162,7 +193,8 @@ impl Hart {
         trans: &mut T,
     ) -> (usize, Next)
         requires inside { HoldsInside (T.held trans.old) ram.old }
-        requires places { (from < end) × (end ≤ 1024) }
+        requires places { (64 * part ≤ from) × (from < end) × (end ≤ 64 * part + 64) × (end ≤ 1024) }
+        requires least { (LEAST ≡ 1) ⊎ (end ≡ 64 * part + 64) }
         requires page { base % 4096 ≡ 0 }
         requires live { IsLive live.now.frames f.0 }
         requires now { AreNow page.now.words ram.old f.0 from end }
@@ -177,27 +209,95 @@ impl Hart {
         ensures within { from + result.0 ≤ end }
         ensures moves { MovesOn (end - from) result.0 result.1 }
     {
+        let ops = page.ops_of(part);
         let mut k = from;
         'word: loop {
             ram.frames_are_whole();
-            match self.obey::<T, S>(page, live, base, k, ram, trans) {
+            match self.obey::<T, Caller>(ops, live, base, k, ram, trans) {
                 Next::Behind => {}
-                Next::Stored(g, part) => return (k - from + 1, Next::Stored(g, part)),
+                Next::Stored(g, stored) => return (k - from + 1, Next::Stored(g, stored)),
                 Next::Within(to) => return (k - from + 1, Next::Within(to)),
                 Next::At(to) => return (k - from + 1, Next::At(to)),
-                Next::Stop(trap) => return (k - from, Next::Stop(trap)),
+                Next::Stop(trap) => {
+                    if k == end {
+                        return (end - from, Next::Behind);
+                    }
+                    return (k - from, Next::Stop(trap));
+                }
             }
             k += 1;
-            if k == end {
+            if LEAST == 1 && k == end {
                 return (end - from, Next::Behind);
             }
         }
     }
 
     // Does at most `count` operations of the page of the pc, which has frame `f`, until a jump leaves the page, up to a
-    // stop. Returns how many are left, and a trap. What is known of pages still holds.
+    // stop, or until fewer than `LEAST` are left. Returns how many are left, and a trap. What is known of pages still
+    // holds. Where `LEAST` is 64, as many as a part has, each part that is entered is done to its end.
     #[inline(never)]
-    fn run_page<T: Translate, S: Stops>(
+    fn run_page<T: Translate, S: Stops, const LEAST: usize>(
+        &mut self,
+        page: &mut Page,
+        f: FrameNo,
+        live: &mut Live,
+        ram: &mut Ram,
+        trans: &mut T,
+        count: u32,
+        stops: &S,
+    ) -> (u32, Option<Trap>)
+        requires inside { HoldsInside (T.held trans.old) ram.old }
+        requires frame { f.0 < length ram.old }
+        requires least { (LEAST ≡ 1) ⊎ ((LEAST ≡ 64) × (S.addresses stops.now ≡ [])) }
+        requires some { LEAST ≤ count }
+        requires live { IsLive live.old.frames f.0 }
+        requires checked { AreChecked page.old.words ram.old f.0 page.old.parts }
+        ensures checked { AreChecked page.new.words ram.new f.0 page.new.parts }
+        ensures others { StayLive f.0 live.old.frames live.new.frames ram.old ram.new }
+        ensures goes { (mapping : List Mapped) → frame_for mapping (self.old.pc / 4096) Access.Fetch ≡ Some f.0 →
+            GoesOn (T.held trans.old) (T.held trans.new) self.old.root.0 mapping (S.addresses stops.now)
+            (point_of self.old ram.old) (point_of self.new ram.new) (count - result.0) result.1 }
+        ensures whole { StaysWhole (T.held trans.new) self.old self.new ram.old ram.new }
+        ensures within { result.0 ≤ count }
+        ensures fewer { IfNone result.1 (result.0 < count) }
+        ensures trap { IfSome result.1 (λ t. 0 < result.0) }
+        ensures behind { IfSome result.1
+            (λ t. IsBehind (S.addresses stops.now) (count - result.0) self.old.pc self.new.pc) }
+    {
+        // worked out here, where the compiler then knows that its low bits are 0
+        let base = self.pc / 4096 * 4096;
+        let mut k = (self.pc % 4096 / 4) as usize;
+        let mut free = Known {
+            here: Stretch {
+                from: k + 1,
+                to: stops.clear_to(base, k),
+            },
+            before: Stretch { from: 0, to: 0 },
+        };
+        let mut left = count as usize;
+        'jump: while left >= LEAST {
+            let part = page.reach(ram, f, k);
+            let end = end_of::<S, LEAST>(stops, free, part, k, left);
+            let (done, next) = self.straight::<T, [S; LEAST], LEAST>(
+                page, part, f, live, base, k, end, ram, trans,
+            );
+            page.heed(f, &next, live);
+            left -= done;
+            let at = k + done;
+            let Some((index, stretches)) = onward(stops, base, at, &next, free) else {
+                self.pc = next.address(base.wrapping_add(4 * at as u64));
+                return (left as u32, next.trap());
+            };
+            free = stretches;
+            k = index;
+        }
+        self.pc = base.wrapping_add(4 * k as u64);
+        (left as u32, None)
+    }
+
+    // The same where any number is left.
+    #[inline(always)]
+    fn visit<T: Translate, S: Stops>(
         &mut self,
         page: &mut Page,
         f: FrameNo,
@@ -224,35 +324,10 @@ impl Hart {
         ensures behind { IfSome result.1
             (λ t. IsBehind (S.addresses stops.now) (count - result.0) self.old.pc self.new.pc) }
     {
-        // worked out here, where the compiler then knows that its low bits are 0
-        let base = self.pc / 4096 * 4096;
-        let mut k = (self.pc % 4096 / 4) as usize;
-        let mut free = Known {
-            here: Stretch {
-                from: k + 1,
-                to: stops.clear_to(base, k),
-            },
-            before: Stretch { from: 0, to: 0 },
-        };
-        // where the count ends, if no operation jumps
-        let mut limit = k + count as usize;
-        while k < limit {
-            let known = page.reach(ram, f, k);
-            let end = first_of(k, limit, stops.free_to(free, known));
-            let (done, next) = self.straight::<T, S>(page, f, live, base, k, end, ram, trans);
-            page.heed(f, &next, live);
-            let at = k + done;
-            let left = limit - at;
-            let Some((index, stretches)) = onward(stops, base, at, &next, free) else {
-                self.pc = next.address(base.wrapping_add(4 * at as u64));
-                return (left as u32, next.trap());
-            };
-            free = stretches;
-            k = index;
-            limit = k + left;
+        if stops.is_empty() && count as usize >= PART {
+            return self.run_page::<T, S, PART>(page, f, live, ram, trans, count, stops);
         }
-        self.pc = base.wrapping_add(4 * k as u64);
-        (0, None)
+        self.run_page::<T, S, 1>(page, f, live, ram, trans, count, stops)
     }
 
     /// Does at most `count` instructions, up to the first that isn't done or to a stop after the first of them. Returns
@@ -314,7 +389,7 @@ impl Hart {
             ram.frames_are_whole();
             let at = pages.place(f.0, &mut live);
             let page = &mut pages.all[at];
-            let (rest, stopped) = self.run_page(page, f, &mut live, ram, trans, left, stops);
+            let (rest, stopped) = self.visit(page, f, &mut live, ram, trans, left, stops);
             left = rest;
             if let Some(trap) = stopped {
                 return (count - left, Some(trap));

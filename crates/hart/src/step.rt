@@ -12,7 +12,7 @@ ghost use Rattle.hart.specs.Follows.{Follows};
 
 use crate::access::{locate, place};
 use crate::decoding::flatten;
-use crate::in_page::InPage;
+use crate::in_page::Pc;
 use crate::state::Hart;
 use ram::Ram;
 use sv39::Translate;
@@ -52,7 +52,7 @@ impl Hart {
                 address: pc,
             });
         };
-        let next = self.act::<T, Alone>(&flatten(word), InPage::of(pc), ram, trans);
+        let next = self.act::<T, Alone>(&flatten(word), Pc::of(pc), ram, trans);
         match next.after(pc) {
             Ok(after) => {
                 self.pc = after;

@@ -1,5 +1,5 @@
 //! Addresses at which a run of many instructions stops.
-ghost use Rattle.std.specs.Prelude.{ℕ, IfSome, IsTrue, List, is_some, not, ◌≡◌, ◌%◌, ◌<◌, ◌≤◌, ◌↔◌};
+ghost use Rattle.std.specs.Prelude.{ℕ, IfSome, IsTrue, List, [], is_some, not, ◌≡◌, ◌%◌, ◌<◌, ◌≤◌, ◌↔◌};
 ghost use Rattle.hart.specs.Stops.{AreFree, IsClear, IsFree, is_stop, pc_at};
 
 /// Words of a page, from one up to another, which is not one of them.
@@ -47,6 +47,10 @@ impl Known {
 pub trait Stops {
     ghost addresses: { Self → List ℕ };
 
+    /// Whether there is none.
+    fn is_empty(&self) -> bool
+        ensures { IsTrue result ↔ addresses self.now ≡ [] };
+
     /// Whether an address is one of them.
     fn has(&self, address: u64) -> bool
         ensures { result ≡ is_stop (addresses self.now) address };
@@ -82,9 +86,12 @@ pub trait Stops {
 pub struct NoStops;
 
 impl Stops for NoStops {
-    ghost use Rattle.std.specs.Prelude.{[]};
-
     ghost addresses = { λ _. [] };
+
+    #[inline(always)]
+    fn is_empty(&self) -> bool {
+        true
+    }
 
     #[inline(always)]
     fn has(&self, _address: u64) -> bool {
@@ -134,6 +141,11 @@ fn clear_of(address: u64, base: u64, k: usize, end: usize) -> usize
 
 impl Stops for Breakpoints<'_> {
     ghost addresses = { λ b. b.addresses.now };
+
+    #[inline(always)]
+    fn is_empty(&self) -> bool {
+        self.addresses.is_empty()
+    }
 
     fn has(&self, address: u64) -> bool {
         self.addresses.contains(&address)

@@ -1,12 +1,14 @@
-use Rattle.hart.proofs.Common.{slice_index}
 use Rattle.hart.proofs.Acts.{acts-live, keeps-live}
-use Rattle.hart.proofs.Straight.{acts-meant}
+use Rattle.std.proofs.lemmas.List.{get_or_default}
 use Rattle.hart.proofs.state.Hart.obey.Goals as goal
 
 pub returns-clause-acts : goal.returns-clause-acts
-returns-clause-acts g c =
-    rw c.seen_live.ensures (acts-meant _ (slice_index c.args.page.now.words c.args.k) c.op.ensures
-    (acts-live c.act-next.result c.args.live.now.frames c.act-next.ensures.acts))
+returns-clause-acts g c = λ d.
+    rw (
+      c.seen_live.ensures,
+      get_or_default c.args.ops.now c.args.k d c.index-ops-k.result c.requires.place.0,
+      ← c.index-ops-k.is,
+    ) (acts-live c.act-next.result c.args.live.now.frames c.act-next.ensures.acts)
 
 pub returns-clause-words : goal.returns-clause-words
 returns-clause-words g c =

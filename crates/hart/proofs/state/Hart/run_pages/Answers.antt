@@ -5,28 +5,28 @@ use Rattle.hart.proofs.Steps.{inside-kept}
 use Rattle.hart.proofs.Straight.{behind-then, goes-none, run-faults, run-then, whole-then}
 use Rattle.hart.proofs.state.Hart.run_pages.Given as given
 use Rattle.hart.proofs.state.Hart.run_pages.Goals as goal
-use Rattle.hart.proofs.state.Hart.run_pages.Goals.{After-run_page-rest}
+use Rattle.hart.proofs.state.Hart.run_pages.Goals.{After-visit-rest}
 
 -- after the operations of a page
-ran : (g : given.Over) (c : After-run_page-rest g) (stopped : Option Trap) → c.run_page-rest.result.1 ≡ stopped
+ran : (g : given.Over) (c : After-visit-rest g) (stopped : Option Trap) → c.visit-rest.result.1 ≡ stopped
     → (mapping : List Mapped)
-    → GoesOn (g.T.Translate.held c.args.trans.now) (g.T.Translate.held c.run_page-rest.new.trans)
+    → GoesOn (g.T.Translate.held c.args.trans.now) (g.T.Translate.held c.visit-rest.new.trans)
     c.args.self.now.root.0 mapping (g.S.Stops.addresses c.args.stops.now) (point_of c.args.self.now c.args.ram.now)
-    (point_of c.run_page-rest.new.self c.run_page-rest.new.ram) (c.args.count - c.run_page-rest.result.0) stopped
+    (point_of c.visit-rest.new.self c.visit-rest.new.ram) (c.args.count - c.visit-rest.result.0) stopped
 ran g c stopped is mapping =
     let before = c.loop-left.invariant in
     run-then (g.T.Translate.held c.args.trans.now) (g.T.Translate.held c.locate.new.trans)
     (c.args.count - c.loop-left.left) mapping before.whole (before.goes mapping) c.locate.ensures.kept
     {o = Some c.in-Some.f.0} c.in-Some.ensures.answer
-    c.run_page-rest.new.self c.run_page-rest.new.ram c.args.count c.loop-left.left c.run_page-rest.result.0
-    c.in-Some.f.0 stopped before.behind refl before.bounded c.run_page-rest.ensures.within refl
-    (λ others at. rw is at (c.run_page-rest.ensures.goes others at))
+    c.visit-rest.new.self c.visit-rest.new.ram c.args.count c.loop-left.left c.visit-rest.result.0
+    c.in-Some.f.0 stopped before.behind refl before.bounded c.visit-rest.ensures.within refl
+    (λ others at. rw is at (c.visit-rest.ensures.goes others at))
 
-pub run_page-rest-requires-clause-inside : goal.run_page-rest-requires-clause-inside
-run_page-rest-requires-clause-inside g c = inside-kept _ c.loop-left.invariant.whole.inside c.locate.ensures.kept
+pub visit-rest-requires-clause-inside : goal.visit-rest-requires-clause-inside
+visit-rest-requires-clause-inside g c = inside-kept _ c.loop-left.invariant.whole.inside c.locate.ensures.kept
 
-pub run_page-rest-requires-clause-checked : goal.run_page-rest-requires-clause-checked
-run_page-rest-requires-clause-checked g c = rw c.index_mut-page.ensures.value
+pub visit-rest-requires-clause-checked : goal.visit-rest-requires-clause-checked
+visit-rest-requires-clause-checked g c = rw c.index_mut-page.ensures.value
     (c.place-at.ensures.known c.loop-left.ram c.loop-left.invariant.known c.in-Some.f.0
     (omega (arith, c.in-Some.ensures.inside, c.frames_are_whole.ensures.small)) c.place-at.ensures.live
     c.place-at.result c.place-at.ensures.page _)
@@ -44,18 +44,18 @@ loop-left-init g c = record {
 pub loop-left-preserved : goal.loop-left-preserved
 loop-left-preserved g c =
     let before = c.loop-left.invariant in
-    let fewer = rw c.in_default-stopped.is at c.run_page-rest.ensures.fewer in
+    let fewer = rw c.in_default-stopped.is at c.visit-rest.ensures.fewer in
     record {
-      bounded = omega (arith, c.run_page-rest.ensures.within, before.bounded);
+      bounded = omega (arith, c.visit-rest.ensures.within, before.bounded);
       many = c.place-at.ensures.many;
-      known = still-known c.place-at.new.live.frames c.run_page-rest.new.live.frames c.place-at.new.self.sets no_pages
-          c.place-at.new.self.all.items c.loop-left.ram c.run_page-rest.new.ram c.in-Some.f.0 c.place-at.result
-          c.run_page-rest.new.page (search rules) c.place-at.ensures.page c.place-at.ensures.live
-          c.run_page-rest.ensures.others c.run_page-rest.ensures.checked
+      known = still-known c.place-at.new.live.frames c.visit-rest.new.live.frames c.place-at.new.self.sets no_pages
+          c.place-at.new.self.all.items c.loop-left.ram c.visit-rest.new.ram c.in-Some.f.0 c.place-at.result
+          c.visit-rest.new.page (search rules) c.place-at.ensures.page c.place-at.ensures.live
+          c.visit-rest.ensures.others c.visit-rest.ensures.checked
           (c.place-at.ensures.known c.loop-left.ram before.known);
-      whole = whole-then before.whole c.run_page-rest.ensures.whole;
+      whole = whole-then before.whole c.visit-rest.ensures.whole;
       behind = inl (omega (arith, before.bounded, fewer), sym c.if-has.ensures);
-      goes = ran g (goal.at.loop-left-preserved g c).After-run_page-rest None c.in_default-stopped.is;
+      goes = ran g (goal.at.loop-left-preserved g c).After-visit-rest None c.in_default-stopped.is;
     }
 
 pub returns-in_default-clause-goes : goal.returns-in_default-clause-goes
@@ -73,23 +73,23 @@ returns-in_default-clause-whole g c = record {
 
 pub returns-in-Some-stopped-clause-goes : goal.returns-in-Some-stopped-clause-goes
 returns-in-Some-stopped-clause-goes g c =
-    ran g (goal.at.returns-in-Some-stopped-clause-goes g c).After-run_page-rest (Some c.in-Some-stopped.trap)
+    ran g (goal.at.returns-in-Some-stopped-clause-goes g c).After-visit-rest (Some c.in-Some-stopped.trap)
     c.in-Some-stopped.is
 
 pub returns-in-Some-stopped-clause-behind : goal.returns-in-Some-stopped-clause-behind
 returns-in-Some-stopped-clause-behind g c =
     let before = c.loop-left.invariant in
-    let sum : c.args.count - c.loop-left.left + (c.loop-left.left - c.run_page-rest.result.0)
-    ≡ c.args.count - c.run_page-rest.result.0 = omega (arith, before.bounded, c.run_page-rest.ensures.within) in
-    rw (← sum) (behind-then _ before.behind (rw c.in-Some-stopped.is at c.run_page-rest.ensures.behind))
+    let sum : c.args.count - c.loop-left.left + (c.loop-left.left - c.visit-rest.result.0)
+    ≡ c.args.count - c.visit-rest.result.0 = omega (arith, before.bounded, c.visit-rest.ensures.within) in
+    rw (← sum) (behind-then _ before.behind (rw c.in-Some-stopped.is at c.visit-rest.ensures.behind))
 
 pub returns-then-has-clause-goes : goal.returns-then-has-clause-goes
 returns-then-has-clause-goes g c =
-    ran g (goal.at.returns-then-has-clause-goes g c).After-run_page-rest None c.in_default-stopped.is
+    ran g (goal.at.returns-then-has-clause-goes g c).After-visit-rest None c.in_default-stopped.is
 
 pub returns-then-has-clause-ends : goal.returns-then-has-clause-ends
 returns-then-has-clause-ends g c =
-    let fewer = rw c.in_default-stopped.is at c.run_page-rest.ensures.fewer in
+    let fewer = rw c.in_default-stopped.is at c.visit-rest.ensures.fewer in
     inr (omega (arith, c.loop-left.invariant.bounded, fewer), sym c.if-has.ensures)
 
 pub returns-clause-goes : goal.returns-clause-goes
