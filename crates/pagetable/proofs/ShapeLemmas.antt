@@ -2,13 +2,14 @@
 use Rattle.pagetable.proofs.Common.{Ram, Adds, ap, arith, cases_eq, extra_of, Frames, free_count, free_of, inl, inr}
 use Rattle.pagetable.proofs.Common.{Inserts, IsNode, IsPaged, IsTidy, IsUsed, length, length-append, lookup_of}
 use Rattle.pagetable.proofs.Common.{low_node, made, made_by, mid_node, missing, missing_by, Node, None, Option, refl}
-use Rattle.pagetable.proofs.Common.{SameMap, Some, sym, table_at, table_of, unwrap_or, ℕ, ◌++◌, ◌+◌, ◌<◌, ◌^◌, ◌∙◌, ◌≡◌}
-use Rattle.pagetable.proofs.Common.{◌≢◌, ◌⊎◌, child_at, entry_of, leaf_at, leaf_of, Low, Mid, Removes, ◌%◌, ◌*◌, ◌/◌}
-use Rattle.pagetable.proofs.Common.{[], among, frame_of, free_of-same, get_or-set_other, IsEmpty, IsFreeList}
+use Rattle.pagetable.proofs.Common.{SameMap, Some, sym, table_at, table_of, unwrap_or, ℕ, ◌++◌, ◌+◌, ◌-◌, ◌<◌, ◌^◌, ◌∙◌}
+use Rattle.pagetable.proofs.Common.{◌≡◌, ◌≢◌, ◌⊎◌, child_at, entry_of, leaf_at, leaf_of, Low, Mid, Removes, ◌%◌, ◌*◌}
+use Rattle.pagetable.proofs.Common.{◌/◌, [], among, frame_of, free_of-same, get_or-set_other, IsEmpty, IsFreeList}
 use Rattle.pagetable.proofs.Common.{IsFreeList-same, IsLast, length-set, no_table, replicate, Root, SameTables}
 use Rattle.pagetable.proofs.Common.{slice_set, true, ◌∷◌}
 use Rattle.pagetable.proofs.TreeLemmas.{cases_node, free_count-taken, child_of-some, leaf_of-some, child_of-zero}
-use Rattle.pagetable.proofs.TreeLemmas.{entry_of-zeros, free-first, further-taken, low_is_node, mid_is_node, root_at}
+use Rattle.pagetable.proofs.TreeLemmas.{entry_of-zeros, free-first, further-taken, low_is_node, mid_is_node, no_low}
+use Rattle.pagetable.proofs.TreeLemmas.{root_at}
 
 -- ---- a page is added
 
@@ -116,6 +117,27 @@ mapped-by {m} {k} {r} {page} {s} {n} ins small is table adds =
 
 pub some-none : {v : ℕ} → ◌≡◌ {A = Option ℕ} (Some v) None → ⊥
 some-none e = cc
+
+some-of : {A : Type 0} (o : Option A) → (o ≡ None → ⊥) → (a : A) × (o ≡ Some a)
+some-of None none = absurd (none refl)
+some-of (Some a) none = (a, refl)
+
+-- where the table whose entries map a page is there, none is added
+pub Adds-none : (m k : Ram) (r page : ℕ) (s : Frames) {u : ℕ} → table_at m r (low_node page) ≡ Some u
+    → SameTables m k r → free_of k s ≡ free_of m s → Adds m k r page s s
+Adds-none m k r page s low tables free =
+    let mid = some-of (table_at m r (mid_node page)) (λ none. cc (no_low m r page none, low)) in
+    Adds-by m k r page s s (sym mid.1) (sym low) refl refl (tables (mid_node page) (mid_is_node page) ∙ mid.1)
+    (tables (low_node page) (low_is_node page) ∙ low) (λ x nx _ _. tables x nx) (sym free)
+
+-- the tables on the way to a page are in use where the page before it has the same and is mapped
+pub used-before : (k : Ram) (r page : ℕ) → page < 2 ^ 27 → page % 512 ≢ 0 → lookup_of k r (page - 1) ≢ None → (x : Node)
+    → (x ≡ mid_node page) ⊎ (x ≡ low_node page) → IsUsed k r x
+used-before k r page small inner mapped x o =
+    let before = some-of (lookup_of k r (page - 1)) mapped in
+    let a : (page - 1) / 262144 % 512 ≡ page / 262144 % 512 = omega (arith, inner) in
+    let b : (page - 1) / 512 % 512 ≡ page / 512 % 512 = omega (arith, inner) in
+    record { page = page - 1; value = before.0; inside = omega (arith, small); over = rw (a, b) o; mapped = before.1 }
 
 -- a used entry of the low table
 pub used-low : (k : Ram) (r page : ℕ) {u : ℕ} (i : ℕ) → page < 2 ^ 27 → table_at k r (low_node page) ≡ Some u → i < 512

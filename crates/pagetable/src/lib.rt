@@ -6,8 +6,8 @@
 //! `walks_by_map` says that the walk of the hardware gives what the map gives.
 #![tactic(auto)]
 
-ghost use Rattle.std.specs.Prelude.{◌≡◌, ◌≢◌, ℕ, ◌+◌, ◌*◌, ◌/◌, ◌%◌, ◌^◌, ◌<◌, ◌≤◌, List, [], ◌∷◌, length, None, Some};
-ghost use Rattle.std.specs.Prelude.{true, false, OnOk, OnErr, IsErr, IsTrue, ◌↔◌, IfSome, IfNone};
+ghost use Rattle.std.specs.Prelude.{◌≡◌, ◌≢◌, ℕ, ◌+◌, ◌-◌, ◌*◌, ◌/◌, ◌%◌, ◌^◌, ◌<◌, ◌≤◌, List, [], ◌∷◌, None, Some};
+ghost use Rattle.std.specs.Prelude.{true, false, length, OnOk, OnErr, IsErr, IsTrue, ◌↔◌, IfSome, IfNone};
 ghost use Rattle.std.specs.Option.{option_map};
 ghost use Rattle.frames.specs.Free.{among, free_of, free_count, extra_of, IsFreeList, SameBut};
 ghost use Rattle.frames.specs.Holders.{one_if};
@@ -228,6 +228,19 @@ impl PageTable {
         }
     }
 
+    /// The table whose entries map a page, which is there: `known`, where that is one.
+    pub fn leaf_table(&self, ram: &Ram, page: u64, known: Option<FrameNo>) -> FrameNo
+        requires tree { IsTree ram.now self.now.root.0 }
+        requires known { IfSome known (λ low. table_at ram.now self.now.root.0 (low_node page) ≡ Some low.0) }
+        requires there { table_at ram.now self.now.root.0 (low_node page) ≢ None }
+        ensures { table_at ram.now self.now.root.0 (low_node page) ≡ Some result.0 }
+    {
+        match known {
+            Some(low) => low,
+            None => self.low_table(ram, page).unwrap(),
+        }
+    }
+
     /// The frame and the marks that a page is mapped to, or `None`.
     ///
     /// Of the page's number the lowest 27 bits count, as in the walk.
@@ -363,6 +376,31 @@ impl PageTable {
                 Ok(())
             }
         }
+    }
+
+    /// Maps a page to a frame, instead of what it was mapped to, where the table whose entries map it is there.
+    pub fn map_in(
+        &self,
+        ram: &mut Ram,
+        frames: &Frames,
+        low: FrameNo,
+        page: u64,
+        frame: FrameNo,
+        marks: EntryBits,
+    )
+        requires paged { IsPaged ram.old self.now.root.0 frames.now }
+        requires low { table_at ram.old self.now.root.0 (low_node page) ≡ Some low.0 }
+        requires page { page < 2 ^ 27 }
+        requires frame { frame.0 < length ram.old }
+        requires marks { IsLeafMarks marks.0 }
+        ensures mapped { Maps ram.old ram.new self.now.root.0 page frame.0 marks.0 }
+        ensures adds { Adds ram.old ram.new self.now.root.0 page frames.now frames.now }
+        ensures tables { SameTables ram.old ram.new self.now.root.0 }
+        ensures tidy { IsTidy ram.old self.now.root.0 → IsTidy ram.new self.now.root.0 }
+        ensures paged { IsPaged ram.new self.now.root.0 frames.now }
+        ensures keeps { Keeps ram.old ram.new self.now.root.0 frames.now frames.now }
+    {
+        self.set_leaf(ram, frames, page, low, frame, marks);
     }
 
     /// Sets the marks of a page that is mapped; its frame stays.
@@ -516,6 +554,31 @@ impl PageTable {
         self.drop_low(ram, frames, page, way.mid, way.low);
         self.drop_mid(ram, frames, page, way.mid);
         way.frame
+    }
+
+    /// Takes a page out of the map, whose table maps the page before it, too, and returns the frame that it was mapped
+    /// to.
+    ///
+    /// No table is looked through, and none is given back. The page's own frame is the caller's.
+    pub fn unmap_in(&self, ram: &mut Ram, frames: &Frames, low: FrameNo, page: u64) -> FrameNo
+        requires paged { IsPaged ram.old self.now.root.0 frames.now }
+        requires tidy { IsTidy ram.old self.now.root.0 }
+        requires low { table_at ram.old self.now.root.0 (low_node page) ≡ Some low.0 }
+        requires page { page < 2 ^ 27 }
+        requires mapped { lookup_of ram.old self.now.root.0 page ≢ None }
+        requires inner { page % 512 ≢ 0 }
+        requires before { lookup_of ram.old self.now.root.0 (page - 1) ≢ None }
+        ensures was { option_map (λ x. x.0) (lookup_of ram.old self.now.root.0 page) ≡ Some result.0 }
+        ensures removes { Removes (lookup_of ram.old self.now.root.0) (lookup_of ram.new self.now.root.0) page }
+        ensures drops { Adds ram.new ram.old self.now.root.0 page frames.now frames.now }
+        ensures tables { SameTables ram.old ram.new self.now.root.0 }
+        ensures tidy { IsTidy ram.new self.now.root.0 }
+        ensures paged { IsPaged ram.new self.now.root.0 frames.now }
+        ensures keeps { Keeps ram.old ram.new self.now.root.0 frames.now frames.now }
+    {
+        let (frame, _) = leaf(ram, low, page % ENTRIES).unwrap();
+        self.clear_leaf(ram, frames, page, low);
+        frame
     }
 
     /// Gives back the root of a page table that maps nothing, which is its only table.

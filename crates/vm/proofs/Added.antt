@@ -12,6 +12,7 @@ use Rattle.vm.proofs.Common.{among_first_not, eqb, free-first, free_count-taken,
 use Rattle.vm.proofs.Common.{IsEmpty-tables, IsNode, length-set, lookup_of-same, low_node, made-is, mid_is_node}
 use Rattle.vm.proofs.Common.{mid_node, missing-is, Node, None, none-among, only-root, replicate, Root, root_at}
 use Rattle.vm.proofs.Common.{IsLast, Mid, slice_set, table_at, table_at-same, table_of, trap_marks, ◌%◌, ◌/◌}
+use Rattle.vm.proofs.Common.{SameTables}
 use Rattle.std.specs.Prelude.{Err, Ok, Result}
 use Rattle.std.specs.Result.{is_ok}
 use Rattle.vm.proofs.DenseLemmas.{list-after, Besides, Trades-held, Trades-with, alone-set, beyond-held, count-held}
@@ -255,6 +256,10 @@ module _ {m z : Ram} {r t n f : ℕ} {s q : Frames} (is : OwnsFrames m r t n s) 
         sole = λ wide. further-same s q f took.extra ∙ further-free is.free f at;
       }
 
+  -- its tables are where they were
+  pub taken-nodes : SameTables m z r
+  taken-nodes = let beside = taken-beside in beside.stays.put.nodes
+
   -- the tables that the page needs are free
   pub taken-fits : n < 32768 → frames_for (n + 1) ≤ frames_for n + free_count m s → missing z r n ≤ free_count z q
   taken-fits small room =
@@ -326,8 +331,9 @@ pub record IsGiven (j k : Ram) (f : ℕ) (a w : Frames) : Type 0 where
 
 -- ---- and then it goes
 
--- the space has one page less
-pub record IsDropped (m k : Ram) (r t n : ℕ) (s w : Frames) : Type 0 where
+-- the space has one page less, and the tables are those after it was unmapped
+pub record IsDropped (m j k : Ram) (r t n : ℕ) (s w : Frames) : Type 0 where
+  pub nodes : SameTables j k r
   pub space : OwnsFrames k r t n w
   pub pages : (b : ℕ) → b ≤ n → pages_below k r b ≡ pages_below m r b
   pub mapping : SameLeavesUpTo m k r n
@@ -402,7 +408,7 @@ module _ {m j : Ram} {r t n f : ℕ} {s a : Frames} (is : OwnsFrames m r t (suc 
       bytes-unmapped v (omega (arith, count-unmapped v))
       (omega (arith, count-unmapped v, count-held, ap (count_of v) two.1))
 
-  pub dropped : (k : Ram) (w : Frames) → IsReleased j k f a w → IsDropped m k r t n s w
+  pub dropped : (k : Ram) (w : Frames) → IsReleased j k f a w → IsDropped m j k r t n s w
   dropped k w g =
       let counts = count-unmapped in
       let holders = holders-unmapped in
@@ -414,6 +420,7 @@ module _ {m j : Ram} {r t n f : ℕ} {s a : Frames} (is : OwnsFrames m r t (suc 
       let looks : (p : ℕ) → p < n
       → lookup_of j r p ≡ lookup_of m r p = λ p h. u.removes.others p (omega arith) (omega arith) in
       record {
+        nodes = stays.put.nodes;
         space = beside.space;
         pages = λ b le. pages_below-same j k r b (λ p h. stays.put.looks p)
             (λ p h. let v = frame_at j r p

@@ -12,7 +12,8 @@ use Rattle.vm.proofs.Common.{page_at, page_in, page_with, pages_below, Perm, rea
 use Rattle.vm.proofs.Common.{right_marks, Root, root_at, slice_set, Some, suc, sym, table_at, table_at-same, table_of}
 use Rattle.vm.proofs.Common.{table_of-some, tables_below, tables_for, trap_marks, trap_page, true, unwrap_or, zero, ℕ}
 use Rattle.vm.proofs.Common.{◌%◌, ◌*◌, ◌++◌, ◌+◌, ◌-◌, ◌/◌, ◌<◌, ◌^◌, ◌∙◌, ◌∷◌, ◌≡◌, ◌≢◌, ◌≤◌, ◌⊎◌, entry_marks, holds}
-use Rattle.vm.proofs.Common.{IsSpace, IsUntouched, SameLeaves, SameMap, single, Space, Trades, Trades-beside}
+use Rattle.vm.proofs.Common.{IsSpace, IsUntouched, SameLeaves, SameMap, SameTables, single, Space, Trades}
+use Rattle.vm.proofs.Common.{Trades-beside}
 
 -- ---- how many
 
@@ -510,6 +511,7 @@ pub record StaysPut (m k : Ram) (r t n : ℕ) : Type 0 where
   pub held : held k r t n ≡ held m r t n
   pub reads : SameLeaves m k r n
   pub looks : SameMap m k r
+  pub nodes : SameTables m k r
 
 -- tables that map what they mapped, over frames that keep their bytes
 pub record StaysMapped (m k : Ram) (r t n : ℕ) : Type 0 where
@@ -527,6 +529,7 @@ module _ {m : Ram} {r t n : ℕ} (is : IsDense m r t n) where
         held = rw (both.0, both.1) refl;
         reads = λ read. read_below-same read m k r n (λ p h. looks p);
         looks = looks;
+        nodes = λ x nx. table_at-same m k r same x nx;
       }
 
   held-tables : (k : Ram) → ((f : ℕ) → 0 < count_of f (held m r t n) → frame_of k f ≡ frame_of m f) → (v : ℕ)

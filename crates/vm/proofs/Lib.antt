@@ -1,4 +1,5 @@
 mod Common
+pub mod Tables
 pub mod Added
 pub mod DenseLemmas
 pub mod Forked

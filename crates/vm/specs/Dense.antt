@@ -1,11 +1,12 @@
 -- Address spaces, read off a memory.
 use Rattle.std.specs.Prelude.{◌≡◌, ◌≢◌, ◌==◌, ◌<◌, ◌≤◌, ℕ, zero, suc, ◌+◌, ◌/◌, ◌%◌, ◌^◌, if◌then◌else◌, nat_lt, true}
-use Rattle.std.specs.Prelude.{List, [], ◌∷◌, ◌++◌, Some, None, replicate, unwrap_or}
+use Rattle.std.specs.Prelude.{IfSome, List, [], ◌∷◌, ◌++◌, Option, Some, None, replicate, unwrap_or}
 use Rattle.ram.specs.Memory.{frame_of}
+use Rattle.ram.specs.declared.FrameNo.{FrameNo}
 use Rattle.frames.specs.declared.Frames.{Frames}
 use Rattle.frames.specs.Free.{further_at, IsFreeList}
 use Rattle.frames.specs.Holders.{one_if, count_of, holders_of}
-use Rattle.pagetable.specs.Tree.{mid_node, low_node, lookup_of, IsTree}
+use Rattle.pagetable.specs.Tree.{mid_node, low_node, lookup_of, table_at, IsTree}
 use Rattle.pagetable.specs.Shape.{table_of, IsTidy}
 use Rattle.sv39.specs.Mapping.{Mapped, memory_of}
 use Rattle.unixmodel.specs.Memory.{Perm, Page, Memory}
@@ -98,6 +99,10 @@ held m r t n = tables_below m r n ++ (t ∷ frames_below m r n)
 -- how many frames a space of n pages holds
 abbrev pub frames_for : ℕ → ℕ
 frames_for n = 4 + n + (n + 511) / 512 + one_if (nat_lt 0 n)
+
+-- this is the table whose entries map a page, where it is known
+abbrev pub IsTableFor : List (List ℕ) → ℕ → ℕ → Option FrameNo → Type 0
+IsTableFor m r page known = IfSome known (λ low. table_at m r (low_node page) ≡ Some low.0)
 
 -- the tables from r map the pages below n, the trap frame, and nothing else
 pub record IsDense (m : List (List ℕ)) (r t n : ℕ) : Type 0 where

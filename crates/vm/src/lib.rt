@@ -17,8 +17,9 @@ ghost use Rattle.frames.specs.Free.{among, extra_of, free_of, free_count, IsFree
 ghost use Rattle.frames.specs.Holders.{Trades, one_if};
 ghost use Rattle.std.specs.Option.{option_map};
 ghost use Rattle.pagetable.specs.Shape.{Adds, IsTidy, Removes};
-ghost use Rattle.pagetable.specs.Tree.{IsLeafMarks, IsPaged, Keeps, lookup_of};
-ghost use Rattle.vm.specs.Dense.{IsDense, OwnsFrames, frames_for, marks_at, SameLeaves, SameLeavesUpTo, blank_page};
+ghost use Rattle.pagetable.specs.Tree.{IsLeafMarks, IsPaged, Keeps, Maps, lookup_of, missing};
+ghost use Rattle.vm.specs.Dense.{IsDense, IsTableFor, OwnsFrames, SameLeaves, SameLeavesUpTo, blank_page, frames_for};
+ghost use Rattle.vm.specs.Dense.{marks_at};
 ghost use Rattle.unixmodel.specs.Memory.{shared_marks, shared_memory};
 ghost use Rattle.vm.specs.Leaf.{marks_from, rights_from, user_leaf, IsUserLeaf};
 ghost use Rattle.vm.specs.Space.{GainsHolders, HasFramesOf, IsSpace, LacksFrames, SharesWith, StaysOpen, entries_of};
@@ -200,13 +201,57 @@ impl Space {
         })
     }
 
-    // Makes a free frame the next page, all zero.
-    fn add_page(&self, ram: &mut Ram, frames: &mut Frames, n: u64, marks: EntryBits)
+    // Maps the next page. Returns its table, if the page after it has the same.
+    fn map_page(
+        &self,
+        ram: &mut Ram,
+        frames: &mut Frames,
+        n: u64,
+        frame: FrameNo,
+        marks: EntryBits,
+        low: Option<FrameNo>,
+    ) -> Option<FrameNo>
+        requires held { OwnsFrames ram.old self.now.root.0 self.now.trap.0 n frames.old }
+        requires small { n < 32768 }
+        requires room { missing ram.old self.now.root.0 n ≤ free_count ram.old frames.old }
+        requires frame { frame.0 < length ram.old }
+        requires marks { IsLeafMarks marks.0 }
+        requires low { n % 512 ≢ 0 → IsTableFor ram.old self.now.root.0 n low }
+        ensures mapped { Maps ram.old ram.new self.now.root.0 n frame.0 marks.0 }
+        ensures adds { Adds ram.old ram.new self.now.root.0 n frames.old frames.new }
+        ensures tidy { IsTidy ram.new self.now.root.0 }
+        ensures paged { IsPaged ram.new self.now.root.0 frames.new }
+        ensures keeps { Keeps ram.old ram.new self.now.root.0 frames.old frames.new }
+        ensures extra { extra_of frames.new ≡ extra_of frames.old }
+        ensures low { (n + 1) % 512 ≢ 0 → IsTableFor ram.new self.now.root.0 (n + 1) result }
+    {
+        let table = PageTable { root: self.root };
+        if n % 512 == 0 {
+            table.map(ram, frames, n, frame, marks).unwrap();
+            return None;
+        }
+        let low = table.leaf_table(ram, n, low);
+        table.map_in(ram, frames, low, n, frame, marks);
+        Some(low)
+    }
+
+    // Makes a free frame the next page, all zero. `low` is its table, if that is known; returned is that of the page
+    // after it.
+    fn add_page(
+        &self,
+        ram: &mut Ram,
+        frames: &mut Frames,
+        n: u64,
+        marks: EntryBits,
+        low: Option<FrameNo>,
+    ) -> Option<FrameNo>
         requires held { OwnsFrames ram.old self.now.root.0 self.now.trap.0 n frames.old }
         requires small { n < 32768 }
         requires room { frames_for (n + 1) ≤ frames_for n + free_count ram.old frames.old }
         requires marks { IsLeafMarks marks.0 }
         requires user { IsUserLeaf marks.0 }
+        requires low { n % 512 ≢ 0 → IsTableFor ram.old self.now.root.0 n low }
+        ensures low { (n + 1) % 512 ≢ 0 → IsTableFor ram.new self.now.root.0 (n + 1) result }
         ensures held { OwnsFrames ram.new self.now.root.0 self.now.trap.0 (n + 1) frames.new }
         ensures pages { first_pages ram.new self.now (n + 1) ≡ first_pages ram.old self.now n
             ++ (blank_page marks.0 ∷ []) }
@@ -219,10 +264,9 @@ impl Space {
             ≡ frames_for n + free_count ram.old frames.old }
     {
         ram.frames_are_whole();
-        let table = PageTable { root: self.root };
         let frame = frames.take(ram).unwrap();
         ram.zero(frame);
-        table.map(ram, frames, n, frame, marks).unwrap();
+        self.map_page(ram, frames, n, frame, marks, low)
     }
 
     /// Makes a space with the same pages, whose frames each have one holder more then; its trap frame is all 0.
@@ -300,17 +344,28 @@ impl Space {
             return Err(VmFault::Frames);
         }
         let leaf = Marks::new(perm).leaf();
+        let mut low = None;
         for page in from..to {
-            self.add_page(ram, frames, page, leaf);
+            low = self.add_page(ram, frames, page, leaf, low);
         }
         self.size = size;
         Ok(())
     }
 
-    // Takes the last page out of the tables. Page 0 is the only one of its tables, which go back without being read.
-    fn unmap_page(&self, ram: &mut Ram, frames: &mut Frames, n: u64) -> FrameNo
-        requires { OwnsFrames ram.old self.now.root.0 self.now.trap.0 (n + 1) frames.old }
-        ensures was { option_map (λ x. x.0) (lookup_of ram.old self.now.root.0 n) ≡ Some result.0 }
+    // Takes the last page out of the tables. Page 0 is the only one of its tables, which go back without being read; of
+    // others only the first of its table is. `low` is its table, if that is known; returned are its frame and the table
+    // of the page before it.
+    fn unmap_page(
+        &self,
+        ram: &mut Ram,
+        frames: &mut Frames,
+        n: u64,
+        low: Option<FrameNo>,
+    ) -> (FrameNo, Option<FrameNo>)
+        requires held { OwnsFrames ram.old self.now.root.0 self.now.trap.0 (n + 1) frames.old }
+        requires low { IsTableFor ram.old self.now.root.0 n low }
+        ensures was { option_map (λ x. x.0) (lookup_of ram.old self.now.root.0 n) ≡ Some result.0.0 }
+        ensures low { IsTableFor ram.new self.now.root.0 (n - 1) result.1 }
         ensures removes { Removes (lookup_of ram.old self.now.root.0) (lookup_of ram.new self.now.root.0) n }
         ensures drops { Adds ram.new ram.old self.now.root.0 n frames.new frames.old }
         ensures tidy { IsTidy ram.new self.now.root.0 }
@@ -320,15 +375,26 @@ impl Space {
     {
         let table = PageTable { root: self.root };
         if n == 0 {
-            table.unmap_last(ram, frames, n)
-        } else {
-            table.unmap(ram, frames, n)
+            return (table.unmap_last(ram, frames, n), None);
         }
+        if n % 512 == 0 {
+            return (table.unmap(ram, frames, n), None);
+        }
+        let low = table.leaf_table(ram, n, low);
+        (table.unmap_in(ram, frames, low, n), Some(low))
     }
 
-    // Gives back the last page.
-    fn drop_page(&self, ram: &mut Ram, frames: &mut Frames, n: u64)
-        requires { OwnsFrames ram.old self.now.root.0 self.now.trap.0 (n + 1) frames.old }
+    // Gives back the last page. `low` is its table, if that is known; returned is that of the page before it.
+    fn drop_page(
+        &self,
+        ram: &mut Ram,
+        frames: &mut Frames,
+        n: u64,
+        low: Option<FrameNo>,
+    ) -> Option<FrameNo>
+        requires held { OwnsFrames ram.old self.now.root.0 self.now.trap.0 (n + 1) frames.old }
+        requires low { IsTableFor ram.old self.now.root.0 n low }
+        ensures low { IsTableFor ram.new self.now.root.0 (n - 1) result }
         ensures held { OwnsFrames ram.new self.now.root.0 self.now.trap.0 n frames.new }
         ensures pages { (k : ℕ) → k ≤ n → first_pages ram.new self.now k ≡ first_pages ram.old self.now k }
         ensures mapping { SameLeavesUpTo ram.old ram.new self.now.root.0 n }
@@ -337,8 +403,9 @@ impl Space {
             (held_by ram.new self.now n) }
     {
         ram.frames_are_whole();
-        let frame = self.unmap_page(ram, frames, n);
+        let (frame, low) = self.unmap_page(ram, frames, n, low);
         frames.give(ram, frame);
+        low
     }
 
     // Gives back the pages from `to` on.
@@ -352,8 +419,9 @@ impl Space {
         ensures trades { Trades ram.old ram.new frames.old frames.new (held_by ram.old self.now from)
             (held_by ram.new self.now to) }
     {
+        let mut low = None;
         for i in 0..from - to {
-            self.drop_page(ram, frames, from - 1 - i);
+            low = self.drop_page(ram, frames, from - 1 - i, low);
         }
     }
 

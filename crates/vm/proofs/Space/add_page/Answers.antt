@@ -1,6 +1,7 @@
 use Rattle.vm.proofs.Common.{arith, ap, ◌∙◌, replicate, get_or-set_same, frame_of, free-first}
-use Rattle.vm.proofs.DenseLemmas.{marks_at-is, OwnsFrames-paged, IsTaken, IsTaken-set}
-use Rattle.vm.proofs.Added.{IsBefore, taken-before, ok-unless_err, taken-fits, taken-grown}
+use Rattle.vm.proofs.DenseLemmas.{marks_at-is, IsTaken, IsTaken-set}
+use Rattle.vm.proofs.Added.{IsBefore, taken-before, taken-fits, taken-grown, taken-nodes}
+use Rattle.vm.proofs.Tables.{for-same}
 use Rattle.vm.proofs.Space.add_page.Goals as goal
 use Rattle.vm.proofs.Space.add_page.Goals.{After-zero}
 
@@ -19,49 +20,51 @@ pub zero-requires : goal.zero-requires
 zero-requires c = (free-first c.requires.held.free c.unwrap-frame.result.0 _
     (rw c.unwrap-frame.ensures at c.take.ensures.some)).0
 
-pub map-requires-clause-paged : goal.map-requires-clause-paged
-map-requires-clause-paged c = OwnsFrames-paged (before (goal.at.map-requires-clause-paged c).After-zero).space
+pub map_page-requires-clause-held : goal.map_page-requires-clause-held
+map_page-requires-clause-held c = (before (goal.at.map_page-requires-clause-held c).After-zero).space
 
-pub map-requires-clause-frame : goal.map-requires-clause-frame
-map-requires-clause-frame c =
+pub map_page-requires-clause-room : goal.map_page-requires-clause-room
+map_page-requires-clause-room c =
+    taken-fits c.requires.held (taken (goal.at.map_page-requires-clause-room c).After-zero) c.requires.small
+    c.requires.room
+
+pub map_page-requires-clause-frame : goal.map_page-requires-clause-frame
+map_page-requires-clause-frame c =
     omega (
       arith,
-      (taken (goal.at.map-requires-clause-frame c).After-zero).count,
+      (taken (goal.at.map_page-requires-clause-frame c).After-zero).count,
       (free-first c.requires.held.free c.unwrap-frame.result.0 _ (rw c.unwrap-frame.ensures at c.take.ensures.some)).0,
     )
 
-pub unwrap-requires : goal.unwrap-requires
-unwrap-requires c =
-    ok-unless_err _ (λ e err. omega (
-      arith,
-      rw err at c.map.ensures.full,
-      taken-fits c.requires.held (taken (goal.at.unwrap-requires c).After-zero) c.requires.small c.requires.room,
-    ))
+pub map_page-requires-clause-low : goal.map_page-requires-clause-low
+map_page-requires-clause-low c = λ inner. for-same _ _ _ c.args.n c.args.low
+    (taken-nodes c.requires.held (taken (goal.at.map_page-requires-clause-low c).After-zero)) (c.requires.low inner)
 
 pub returns : goal.returns
 returns c =
     let z = (goal.at.returns c).After-zero in
-    let mapped = rw c.unwrap.ensures at c.map.ensures in
+    let mapped = c.map_page.ensures in
     let inside = (free-first c.requires.held.free c.unwrap-frame.result.0 _
     (rw c.unwrap-frame.ensures at c.take.ensures.some)).0 in
-    let g = taken-grown c.requires.held (taken z) c.map.new.ram c.requires.small
+    let g = taken-grown c.requires.held (taken z) c.map_page.new.ram c.requires.small
     (ap (λ m. frame_of m c.unwrap-frame.result.0) c.zero.ensures
     ∙ get_or-set_same c.args.ram.now c.unwrap-frame.result.0 (replicate 4096 0) _ inside)
     (record {
       leaf = c.requires.user;
       inserts = mapped.mapped;
       adds = mapped.adds;
-      tidy = mapped.tidy (before z).space.dense.tidy;
+      tidy = mapped.tidy;
       paged = mapped.paged;
       keeps =
           mapped.keeps;
       extra = mapped.extra;
     }) in
     record {
+      low = mapped.low;
       held = g.space;
       pages = g.pages;
       mapping = g.mapping;
-      marks = marks_at-is c.map.new.ram _ _ mapped.mapped.changed;
+      marks = marks_at-is c.map_page.new.ram _ _ mapped.mapped.changed;
       trap = g.trap;
       trades = g.trades;
       room =

@@ -40,15 +40,16 @@ loop-page-init c =
         length-held c.args.ram.now c.args.self.now.root.0 c.args.self.now.trap.0
             (pages_in c.args.self.now.size),
       );
+      low = λ inner. tt;
     }
 
-pub add_page-requires-clause-marks : goal.add_page-requires-clause-marks
-add_page-requires-clause-marks c =
+pub add_page-low-requires-clause-marks : goal.add_page-low-requires-clause-marks
+add_page-low-requires-clause-marks c =
     rw (c.leaf-leaf.ensures ∙ ap (λ (a : Perm). user_leaf a true) c.new.ensures)
     (leaf-valid (marks_from c.args.perm) true)
 
-pub add_page-requires-clause-user : goal.add_page-requires-clause-user
-add_page-requires-clause-user c =
+pub add_page-low-requires-clause-user : goal.add_page-low-requires-clause-user
+add_page-low-requires-clause-user c =
     rw (c.leaf-leaf.ensures ∙ ap (λ (a : Perm). user_leaf a true) c.new.ensures)
     (leaf-user (marks_from c.args.perm) true)
 
@@ -63,23 +64,24 @@ loop-page-preserved c =
     ∙ page-zero (marks_from c.args.perm) in
     let count : p + 1 - from ≡ p - from + 1 = omega arith in
     record {
-      space = c.add_page.ensures.held;
-      pages = c.add_page.ensures.pages
+      space = c.add_page-low.ensures.held;
+      pages = c.add_page-low.ensures.pages
           ∙ ap (λ x. pages_below c.loop-page.ram c.args.self.now.root.0 p ++ (x ∷ [])) made
           ∙ ap (λ l. l ++ (zero ∷ [])) i.pages
           ∙ append_assoc (pages_below c.args.ram.now c.args.self.now.root.0 from) (replicate (p - from) zero)
           (zero ∷ [])
           ∙ ap (λ l. pages_below c.args.ram.now c.args.self.now.root.0 from ++ l)
           (rw count (replicate_more (p - from) zero));
-      mapping = λ read. c.add_page.ensures.mapping read from (omega arith) ∙ i.mapping read;
-      opens = λ first h. open-more c.loop-page.ram c.add_page.new.ram c.args.self.now.root.0 p first
-          (marks_from c.args.perm) (λ read. c.add_page.ensures.mapping read p (omega arith))
-          (c.add_page.ensures.marks ∙ (c.leaf-leaf.ensures ∙ ap (λ (a : Perm). user_leaf a true) c.new.ensures))
+      mapping = λ read. c.add_page-low.ensures.mapping read from (omega arith) ∙ i.mapping read;
+      opens = λ first h. open-more c.loop-page.ram c.add_page-low.new.ram c.args.self.now.root.0 p first
+          (marks_from c.args.perm) (λ read. c.add_page-low.ensures.mapping read p (omega arith))
+          (c.add_page-low.ensures.marks ∙ (c.leaf-leaf.ensures ∙ ap (λ (a : Perm). user_leaf a true) c.new.ensures))
           (i.opens first h);
-      trap = c.add_page.ensures.trap ∙ i.trap;
-      trades = Trades-twice i.trades c.add_page.ensures.trades;
-      room = omega (arith, i.room, c.add_page.ensures.room);
+      trap = c.add_page-low.ensures.trap ∙ i.trap;
+      trades = Trades-twice i.trades c.add_page-low.ensures.trades;
+      room = omega (arith, i.room, c.add_page-low.ensures.room);
       small = i.small;
+      low = c.add_page-low.ensures.low;
     }
 
 -- the old pages are mapped as they were

@@ -1,5 +1,7 @@
 use Rattle.vm.proofs.Common.{◌≡◌, ℕ, ◌≤◌, ◌+◌, ◌-◌, ◌++◌, replicate, frame_of, free_count, Trades, IsOpenFrom}
 use Rattle.vm.proofs.Common.{OwnsFrames, SameLeaves, frames_for, zero_page, marks_from, first_pages, held_by}
+use Rattle.vm.proofs.Common.{◌%◌, ◌≢◌}
+use Rattle.vm.specs.Dense.{IsTableFor}
 use Rattle.vm.proofs.Space.grow.Given as goal
 
 abbrev pub invariant-loop-page : goal.invariant-loop-page
@@ -15,4 +17,5 @@ invariant-loop-page l = record {
       (held_by l.ram l.self l.page);
   room : frames_for l.to ≤ frames_for l.page + free_count l.ram l.frames;
   small : l.to ≤ 32768;
+  low : l.page % 512 ≢ 0 → IsTableFor l.ram l.self.root.0 l.page l.low;
 }

@@ -1,5 +1,7 @@
-use Rattle.vm.proofs.Common.{ℕ, ◌≢◌, Option, Some, None, ◌≡◌, arith}
+use Rattle.vm.proofs.Common.{ℕ, ◌-◌, ◌∙◌, ◌≢◌, Option, Some, None, ◌≡◌, arith, low_node}
 use Rattle.vm.proofs.Added.{last-zero}
+use Rattle.vm.proofs.Tables.{low-before, table-there}
+use Rattle.pagetable.proofs.TreeLemmas.{low_is_node}
 use Rattle.vm.proofs.DenseLemmas.{OwnsFrames-paged}
 use Rattle.vm.proofs.Space.unmap_page.Goals as goal
 
@@ -7,16 +9,35 @@ some-lookup : (A : Type 0) (o : Option A) (a : A) → o ≡ Some a → o ≢ Non
 some-lookup A o a e z = cc
 
 pub unmap-requires-clause-paged : goal.unmap-requires-clause-paged
-unmap-requires-clause-paged c = OwnsFrames-paged c.requires
+unmap-requires-clause-paged c = OwnsFrames-paged c.requires.held
 
 pub unmap-requires-clause-mapped : goal.unmap-requires-clause-mapped
-unmap-requires-clause-mapped c = some-lookup (ℕ × ℕ) _ _ (c.requires.dense.pages c.args.n (omega arith))
+unmap-requires-clause-mapped c = some-lookup (ℕ × ℕ) _ _ (c.requires.held.dense.pages c.args.n (omega arith))
 
 pub unmap_last-requires-clause-paged : goal.unmap_last-requires-clause-paged
-unmap_last-requires-clause-paged c = OwnsFrames-paged c.requires
+unmap_last-requires-clause-paged c = OwnsFrames-paged c.requires.held
 
 pub unmap_last-requires-clause-mapped : goal.unmap_last-requires-clause-mapped
-unmap_last-requires-clause-mapped c = some-lookup (ℕ × ℕ) _ _ (c.requires.dense.pages c.args.n (omega arith))
+unmap_last-requires-clause-mapped c = some-lookup (ℕ × ℕ) _ _ (c.requires.held.dense.pages c.args.n (omega arith))
 
 pub unmap_last-requires-clause-last : goal.unmap_last-requires-clause-last
-unmap_last-requires-clause-last c = last-zero c.if-n-eq0.true c.requires.dense
+unmap_last-requires-clause-last c = last-zero c.if-n-eq0.true c.requires.held.dense
+
+pub leaf_table-low-requires-clause-there : goal.leaf_table-low-requires-clause-there
+leaf_table-low-requires-clause-there c = table-there _ _ _
+    (some-lookup (ℕ × ℕ) _ _ (c.requires.held.dense.pages c.args.n (omega arith)))
+
+pub unmap_in-requires-clause-paged : goal.unmap_in-requires-clause-paged
+unmap_in-requires-clause-paged c = OwnsFrames-paged c.requires.held
+
+pub unmap_in-requires-clause-mapped : goal.unmap_in-requires-clause-mapped
+unmap_in-requires-clause-mapped c = some-lookup (ℕ × ℕ) _ _ (c.requires.held.dense.pages c.args.n (omega arith))
+
+pub unmap_in-requires-clause-before : goal.unmap_in-requires-clause-before
+unmap_in-requires-clause-before c =
+    some-lookup (ℕ × ℕ) _ _ (c.requires.held.dense.pages (c.args.n - 1) (omega arith))
+
+pub returns-clause-low : goal.returns-clause-low
+returns-clause-low c =
+    rw (low-before c.args.n c.if-n-eq0-2.false) (c.unmap_in.ensures.tables (low_node c.args.n) (low_is_node c.args.n)
+    ∙ c.leaf_table-low.ensures)
