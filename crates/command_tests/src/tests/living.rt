@@ -3,9 +3,12 @@ ghost use Rattle.std.specs.Prelude.{◌≤◌, IfOk, IfSome, length};
 
 use crate::tests::narrow_outputs::{expect_narrow, output_of};
 use crate::tests::runs::{WITH_CONSOLE, with_image};
+use crate::tests::telling::expect_parts;
 use crate::tests::{Name, UNTOLD, Wanted, expect_that};
-use commands::{Gdb, Host, HostFault, Job, Live, NoScreen, Run};
+use commands::perform::perform;
+use commands::{Gdb, Host, HostFault, Job, Live, NoScreen, Run, Why};
 use std::alloc::{AllocError, Global};
+use std::io;
 use std::num::NonZeroU64;
 use std::process::Abort;
 
@@ -27,6 +30,8 @@ pub struct Desk {
     typed: Vec<u8>,
     // How long the record may get.
     room: usize,
+    // Whether the keyboard can't be read.
+    is_gone: bool,
 }
 
 impl Host for Desk {
@@ -68,6 +73,9 @@ impl Host for Desk {
     fn type_in(&mut self, bytes: &mut [u8], is_terminal: bool) -> Result<Option<usize>, HostFault>
         ensures { IfOk result (λ typed. IfSome typed (λ count. count ≤ length bytes.old)) }
     {
+        if self.is_gone {
+            return Err(HostFault);
+        }
         let count = self.typed.len().min(bytes.len()).min(2);
         for place in bytes.iter_mut().take(count) {
             if !self.typed.is_empty() {
@@ -75,6 +83,14 @@ impl Host for Desk {
             }
         }
         Ok((count > 0 || !is_terminal).then_some(count))
+    }
+
+    fn why(&self) -> Why {
+        if self.is_gone {
+            Why::System(io::Error::from(io::ErrorKind::PermissionDenied))
+        } else {
+            Why::Unknown
+        }
     }
 }
 
@@ -86,6 +102,7 @@ pub fn desk_of(alloc: Global, image: &[u8], typed: &[u8], room: usize) -> Result
         saved: Vec::new(alloc),
         typed: typed.to_vec(alloc)?,
         room,
+        is_gone: false,
     })
 }
 
@@ -112,17 +129,6 @@ const SITTING: Live<'static> = Live {
     symbols: None,
     image: "image",
 };
-
-pub const LIVE: Job<'static> = Job::Live(SITTING);
-
-pub const GDB: Job<'static> = Job::Gdb(Gdb {
-    frames: 256,
-    memory: 1,
-    recorded: None,
-    symbols: None,
-    image: "image",
-    script: Some("script"),
-});
 
 const REPLAY: Job<'static> = Job::Run(Run {
     frames: 256,
@@ -199,6 +205,15 @@ static SHOWN: Session = (
     b"a\x10b\x01x",
     "ab",
     "\n1 sleep 12288\nxv6 run --frames 256 image record\nrunning\n",
+    "running\n",
+);
+
+// The same of a process that runs.
+static BUSY: Session = (
+    true,
+    b"\x10\x01x",
+    "",
+    "\n1 run 12288\nxv6 run --frames 256 image record\nrunning\n",
     "running\n",
 );
 
@@ -299,11 +314,138 @@ fn expect_all_refused(rt: &(impl Abort + AllocGlobal), image: &[u8]) {
     }
 }
 
+pub const LIVE: Job<'static> = Job::Live(SITTING);
+
+const UNHEARD: &str = "cannot read standard input: permission denied\n";
+
+// A keyboard that can't be read ends a session, whose record is written, and a debugger's machine.
+fn expect_unheard(rt: &(impl Abort + AllocGlobal), image: &[u8]) {
+    let mut desk = desk_of(rt.alloc(), image, b"", 1000).expect(rt, "memory");
+    desk.is_gone = true;
+    let name = ("a keyboard", "that can't be read");
+    let wanted = (
+        "",
+        "running\ncannot read standard input: permission denied\n",
+        1,
+    );
+    expect_at(rt, name, &mut desk, &LIVE, 1000, wanted);
+    expect_that(rt, name, "the record", !desk.record.is_empty());
+    let name = ("a debugger", "that can't be read");
+    expect_at(rt, name, &mut desk, &GDB, 1000, ("", UNHEARD, 1));
+}
+
+fn gdb(script: Option<&'static str>, recorded: Option<&'static str>) -> Gdb<'static> {
+    Gdb {
+        frames: 256,
+        memory: 1,
+        recorded,
+        symbols: None,
+        image: "image",
+        script,
+    }
+}
+
+pub const GDB: Job<'static> = Job::Gdb(Gdb {
+    frames: 256,
+    memory: 1,
+    recorded: None,
+    symbols: None,
+    image: "image",
+    script: Some("script"),
+});
+
+// The words of a debugger's machine, what the debugger sends, how many bytes standard output takes, the answers,
+// standard error and status, and the record.
+type Debugged = (
+    Option<&'static str>,
+    &'static [u8],
+    usize,
+    &'static str,
+    &'static str,
+    u8,
+    &'static str,
+);
+
+// Whether the debugger is attached, a program that is opened by both of its names, and none.
+static DEBUGGED: [Debugged; 4] = [
+    (None, b"", 100, "", GDB_TOLD, 0, "step 1000000\n"),
+    (
+        Some("script"),
+        b"$qAttached#8f",
+        100,
+        "+$1#31",
+        GDB_TOLD,
+        0,
+        "step 9\n",
+    ),
+    (
+        Some("script"),
+        b"$vFile:open:2e2f696e6974,0,0#e7$vFile:open:2f696e6974,0,0#50$vFile:open:696e6963,0,0#b6",
+        100,
+        "+$F3#79+$F4#7a+$F-1,2#02",
+        GDB_TOLD,
+        0,
+        "step 9\n",
+    ),
+    (
+        Some("script"),
+        b"$qAttached#8f",
+        3,
+        "+$1",
+        "cannot write standard output\n",
+        1,
+        "step 9\n",
+    ),
+];
+
+const GDB_TOLD: &str = "xv6 run --frames 256 image record\n";
+
+fn expect_debugged(rt: &(impl Abort + AllocGlobal), image: &[u8], row: &Debugged) {
+    let (script, typed, room, stdout, stderr, status, record) = *row;
+    let mut desk = desk_of(rt.alloc(), image, typed, 1000).expect(rt, "memory");
+    desk.script = b"step 9\n".to_vec(rt.alloc()).expect(rt, "memory");
+    let name = ("a debugger", stdout);
+    let job = Job::Gdb(gdb(script, Some("record")));
+    expect_at(rt, name, &mut desk, &job, room, (stdout, stderr, status));
+    let same = desk.record.as_slice() == record.as_bytes();
+    expect_that(rt, name, "its record", same);
+}
+
+// What gdb reads before it connects.
+fn expect_init_lines(rt: &(impl Abort + AllocGlobal)) {
+    let mut out = Vec::new(rt.alloc());
+    let mut err = Vec::new(rt.alloc());
+    let mut desk = desk_of(rt.alloc(), b"", b"", 0).expect(rt, "memory");
+    let status = perform(rt.alloc(), &Job::GdbInit, &mut desk, &mut out, &mut err);
+    let name = ("gdb", "--init");
+    expect_that(rt, name, "the status", status == 0);
+    let lines = &[
+        "set remotetimeout 60\n",
+        "set sysroot target:\n",
+        "set detach-on-fork off\n",
+        "set schedule-multiple on\n",
+        "set remote exec-file /init\n",
+        "set confirm off\ndefine last\n  watch -l $arg0\n  reverse-continue\nend\n",
+    ];
+    expect_parts(rt, name, out.as_slice(), lines);
+}
+
+fn expect_debuggers(rt: &(impl Abort + AllocGlobal)) {
+    let files = with_image(rt, "start: j start\n", WITH_CONSOLE, 32);
+    expect_session(rt, files.image.as_slice(), &BUSY, None);
+    expect_unheard(rt, files.image.as_slice());
+    for row in &DEBUGGED {
+        expect_debugged(rt, files.image.as_slice(), row);
+    }
+    expect_init_lines(rt);
+}
+
 fn expect_desks(rt: &(impl Abort + AllocGlobal)) {
     let files = with_image(rt, LISTENS, WITH_CONSOLE, 32);
     expect_sessions(rt, files.image.as_slice());
     expect_session(rt, files.image.as_slice(), &SHOWN, None);
     expect_all_refused(rt, files.image.as_slice());
+    expect_debuggers(rt);
 }
 
 #[test]

@@ -4,7 +4,7 @@ use crate::tests::runs::{WITH_CONSOLE, with_image};
 use crate::tests::telling::{expect_explained, expect_parts};
 use crate::tests::{UNTOLD, expect, expect_that, text_of};
 use commands::perform::perform;
-use commands::{Host, HostFault, Job, NoScreen, Play, Run};
+use commands::{Host, HostFault, Job, NoScreen, Play, Run, Telling};
 use std::alloc::{AllocError, Global};
 use std::process::Abort;
 
@@ -408,10 +408,13 @@ const ENDS: &[(&str, &str)] = &[
 
 fn expect_end(rt: &(impl Abort + AllocGlobal), image: &[u8], text: &str, part: &str) {
     let mut stage = stage_of(rt.alloc(), image, text).expect(rt, "memory");
-    let mut words = run("play", false);
-    words.telling.json = Some("script");
+    let words = run("play", false);
+    let telling = Telling {
+        json: Some("script"),
+        ..words.telling
+    };
     let job = Job::Play(Play {
-        run: words,
+        run: Run { telling, ..words },
         script: None,
     });
     let mut out = Vec::new(rt.alloc());
