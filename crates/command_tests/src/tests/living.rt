@@ -354,7 +354,7 @@ pub const GDB: Job<'static> = Job::Gdb(Gdb {
     script: Some("script"),
 });
 
-// The words of a debugger's machine, what the debugger sends, how many bytes standard output takes, the answers,
+// The words of a debugger's machine, what the debugger sends, how many bytes standard output takes, what it gets,
 // standard error and status, and the record.
 type Debugged = (
     Option<&'static str>,
