@@ -6,9 +6,8 @@ use crate::tests::runs::{WITH_CONSOLE, with_image};
 use crate::tests::telling::expect_parts;
 use crate::tests::{Name, UNTOLD, Wanted, expect_that};
 use commands::perform::perform;
-use commands::{Gdb, Host, HostFault, Job, Live, NoScreen, Run, Why};
+use commands::{Gdb, Host, HostFault, Job, Live, NoScreen, Run};
 use std::alloc::{AllocError, Global};
-use std::io;
 use std::num::NonZeroU64;
 use std::process::Abort;
 
@@ -30,8 +29,6 @@ pub struct Desk {
     typed: Vec<u8>,
     // How long the record may get.
     room: usize,
-    // Whether the keyboard can't be read.
-    is_gone: bool,
 }
 
 impl Host for Desk {
@@ -73,9 +70,6 @@ impl Host for Desk {
     fn type_in(&mut self, bytes: &mut [u8], is_terminal: bool) -> Result<Option<usize>, HostFault>
         ensures { IfOk result (λ typed. IfSome typed (λ count. count ≤ length bytes.old)) }
     {
-        if self.is_gone {
-            return Err(HostFault);
-        }
         let count = self.typed.len().min(bytes.len()).min(2);
         for place in bytes.iter_mut().take(count) {
             if !self.typed.is_empty() {
@@ -83,14 +77,6 @@ impl Host for Desk {
             }
         }
         Ok((count > 0 || !is_terminal).then_some(count))
-    }
-
-    fn why(&self) -> Why {
-        if self.is_gone {
-            Why::System(io::Error::from(io::ErrorKind::PermissionDenied))
-        } else {
-            Why::Unknown
-        }
     }
 }
 
@@ -102,7 +88,6 @@ pub fn desk_of(alloc: Global, image: &[u8], typed: &[u8], room: usize) -> Result
         saved: Vec::new(alloc),
         typed: typed.to_vec(alloc)?,
         room,
-        is_gone: false,
     })
 }
 
@@ -316,24 +301,6 @@ fn expect_all_refused(rt: &(impl Abort + AllocGlobal), image: &[u8]) {
 
 pub const LIVE: Job<'static> = Job::Live(SITTING);
 
-const UNHEARD: &str = "cannot read standard input: permission denied\n";
-
-// A keyboard that can't be read ends a session, whose record is written, and a debugger's machine.
-fn expect_unheard(rt: &(impl Abort + AllocGlobal), image: &[u8]) {
-    let mut desk = desk_of(rt.alloc(), image, b"", 1000).expect(rt, "memory");
-    desk.is_gone = true;
-    let name = ("a keyboard", "that can't be read");
-    let wanted = (
-        "",
-        "running\ncannot read standard input: permission denied\n",
-        1,
-    );
-    expect_at(rt, name, &mut desk, &LIVE, 1000, wanted);
-    expect_that(rt, name, "the record", !desk.record.is_empty());
-    let name = ("a debugger", "that can't be read");
-    expect_at(rt, name, &mut desk, &GDB, 1000, ("", UNHEARD, 1));
-}
-
 fn gdb(script: Option<&'static str>, recorded: Option<&'static str>) -> Gdb<'static> {
     Gdb {
         frames: 256,
@@ -382,7 +349,7 @@ static DEBUGGED: [Debugged; 4] = [
         Some("script"),
         b"$vFile:open:2e2f696e6974,0,0#e7$vFile:open:2f696e6974,0,0#50$vFile:open:696e6963,0,0#b6",
         100,
-        "+$F3#79+$F4#7a+$F-1,2#02",
+        "+$F1#77+$F2#78+$F-1,2#02",
         GDB_TOLD,
         0,
         "step 9\n",
@@ -433,7 +400,6 @@ fn expect_init_lines(rt: &(impl Abort + AllocGlobal)) {
 fn expect_debuggers(rt: &(impl Abort + AllocGlobal)) {
     let files = with_image(rt, "start: j start\n", WITH_CONSOLE, 32);
     expect_session(rt, files.image.as_slice(), &BUSY, None);
-    expect_unheard(rt, files.image.as_slice());
     for row in &DEBUGGED {
         expect_debugged(rt, files.image.as_slice(), row);
     }
