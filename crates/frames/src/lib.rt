@@ -1,4 +1,7 @@
 //! The frames of a memory: which are free, and how many hold each of the others.
+//!
+//! `Memory` is a memory with its frames: who takes frames, gives them back or writes tables is handed it whole, and who
+//! only reads bytes is lent its `ram`.
 #![tactic(auto)]
 
 ghost use Rattle.std.specs.Prelude.{◌≡◌, ℕ, ◌+◌, ◌<◌, ◌≤◌, List, [], ◌∷◌, length, false, replicate, None, IfSome};
@@ -9,6 +12,9 @@ ghost use Rattle.frames.specs.Free.{among, free_of, free_count, extra_of, furthe
 ghost use Rattle.frames.specs.Free.{IsFreeList, SameBut};
 ghost use Rattle.frames.specs.Holders.{Gains, IsShared, Loses, Moves, holders_of};
 
+mod memory;
+
+pub use memory::Memory;
 use ram::{FrameNo, NoMemory, Ram};
 use std::alloc::{AllocError, Global};
 

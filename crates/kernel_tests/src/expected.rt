@@ -1,9 +1,9 @@
 //! Memories for rows, and what accesses to them need.
 ghost use Rattle.std.specs.Prelude.{◌≡◌, ◌≤◌, length};
 ghost use Rattle.std.specs.List.{range_with_len};
-ghost use Rattle.frames.specs.Free.{free_of, IsFreeList};
+ghost use Rattle.frames.specs.Owned.{free_of, IsFreeList};
 
-use frames::Frames;
+use frames::Memory;
 use ram::{FrameNo, Ram};
 use std::process::Abort;
 
@@ -35,13 +35,15 @@ pub fn memory(rt: &(impl Abort + AllocGlobal), count: u32) -> Ram
     ram
 }
 
-/// The frames of a memory, all free.
-pub fn all_free(rt: &(impl Abort + AllocGlobal), ram: &mut Ram) -> Frames
-    ensures all { free_of ram.new result ≡ range_with_len 0 (length ram.old) }
-    ensures valid { IsFreeList ram.new result }
-    ensures count { length ram.new ≡ length ram.old }
+/// A memory of `count` frames, all free.
+pub fn all_free(rt: &(impl Abort + AllocGlobal), count: u32) -> Memory
+    requires { count ≤ 32768 }
+    ensures all { free_of result ≡ range_with_len 0 count }
+    ensures valid { IsFreeList result }
+    ensures count { length result.ram ≡ count }
 {
-    Frames::new(rt.alloc(), ram).expect(rt, "counts")
+    let ram = memory(rt, count);
+    Memory::new(rt.alloc(), ram).expect(rt, "counts")
 }
 
 /// Puts numbers of 8 bytes into frames, each at its offset.

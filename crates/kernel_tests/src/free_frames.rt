@@ -1,7 +1,7 @@
 //! Frames that are taken and given.
 ghost use Rattle.std.specs.Prelude.{◌≤◌};
 
-use crate::expected::{all_free, expect_case, expect_row, memory};
+use crate::expected::{expect_case, expect_row, memory};
 use frames::Frames;
 use ram::{FrameNo, Ram};
 use std::marker::Model;
@@ -48,7 +48,7 @@ impl Counted {
         requires { count ≤ 32768 }
     {
         let mut ram = memory(rt, count);
-        let frames = all_free(rt, &mut ram);
+        let frames = Frames::new(rt.alloc(), &mut ram).expect(rt, "counts");
         Counted { ram, frames }
     }
 

@@ -1,10 +1,10 @@
 //! Pages that are mapped, walked to and taken out.
 ghost use Rattle.std.specs.Prelude.{◌<◌, ◌^◌, ◌≤◌};
 
-use crate::expected::{all_free, expect_row, memory};
-use frames::Frames;
+use crate::expected::{all_free, expect_row};
+use frames::Memory;
 use pagetable::{Full, PageTable, leaf_marks};
-use ram::{FrameNo, Ram};
+use ram::FrameNo;
 use std::marker::Model;
 use std::process::Abort;
 use sv39::{EntryBits, walk_page};
@@ -14,8 +14,7 @@ use vm::Perm;
 // A table in a memory, and a frame to map.
 #[derive(Drop)]
 struct Mapping {
-    ram: Ram,
-    frames: Frames,
+    memory: Memory,
     table: PageTable,
     frame: FrameNo,
 }
@@ -25,28 +24,26 @@ impl Model for Mapping {
 
     ghost Value = { List (List ℕ) };
 
+    ghost use Rattle.pagetable.specs.Owned.{IsPaged};
     ghost use Rattle.pagetable.specs.Shape.{IsTidy};
-    ghost use Rattle.pagetable.specs.Tree.{IsPaged};
 
-    ghost view = { λ m. m.ram };
+    ghost view = { λ m. m.memory.ram };
 
-    ghost invariant = { λ m. (IsPaged m.ram m.table.root.0 m.frames) × (IsTidy m.ram m.table.root.0)
-        × (m.frame.0 < length m.ram) };
+    ghost invariant = { λ m. (IsPaged m.memory m.table.root.0) × (IsTidy m.memory.ram m.table.root.0)
+        × (m.frame.0 < length m.memory.ram) };
 }
 
 impl Mapping {
     fn new(rt: &(impl Abort + AllocGlobal), count: u32) -> Mapping
         requires { count ≤ 32768 }
     {
-        let mut ram = memory(rt, count);
-        let mut frames = all_free(rt, &mut ram);
-        let frame = frames.take(&ram).expect(rt, "a frame");
-        let table = PageTable::new(&mut ram, &mut frames).expect(rt, "a frame");
-        let count = ram.frame_count();
+        let mut memory = all_free(rt, count);
+        let frame = memory.frames.take(&memory.ram).expect(rt, "a frame");
+        let table = PageTable::new(&mut memory).expect(rt, "a frame");
+        let count = memory.ram.frame_count();
         assert!(rt; frame.0 < count);
         Mapping {
-            ram,
-            frames,
+            memory,
             table,
             frame,
         }
@@ -56,29 +53,27 @@ impl Mapping {
         requires { page < 2 ^ 27 }
     {
         let marks = leaf_marks(perm.w, perm.x, perm.u);
-        self.table
-            .map(&mut self.ram, &mut self.frames, page, self.frame, marks)
+        self.table.map(&mut self.memory, page, self.frame, marks)
     }
 
     // Takes a page out, which has the frame.
     fn unmap(&mut self, page: u64) -> bool
         requires { page < 2 ^ 27 }
     {
-        if self.table.find(&self.ram, page).is_none() {
+        if self.table.find(&self.memory.ram, page).is_none() {
             return false;
         }
-        self.table.unmap(&mut self.ram, &mut self.frames, page) == self.frame
+        self.table.unmap(&mut self.memory, page) == self.frame
     }
 
     fn set_perm(&mut self, page: u64, perm: Perm) -> bool
         requires { page < 2 ^ 27 }
     {
-        if self.table.find(&self.ram, page).is_none() {
+        if self.table.find(&self.memory.ram, page).is_none() {
             return false;
         }
         let marks = leaf_marks(perm.w, perm.x, perm.u);
-        self.table
-            .set_perm(&mut self.ram, &self.frames, page, marks);
+        self.table.set_perm(&mut self.memory, page, marks);
         true
     }
 
@@ -90,13 +85,15 @@ impl Mapping {
             Act::Map(perm, told) => self.map(page, perm) == told,
             Act::Unmap => self.unmap(page),
             Act::SetPerm(perm) => self.set_perm(page, perm),
-            Act::Finds(marks) => { self.table.find(&self.ram, page) == Some((self.frame, marks)) }
-            Act::FindsNothing => self.table.find(&self.ram, page).is_none(),
+            Act::Finds(marks) => {
+                self.table.find(&self.memory.ram, page) == Some((self.frame, marks))
+            }
+            Act::FindsNothing => self.table.find(&self.memory.ram, page).is_none(),
             Act::Walks(access) => {
-                walk_page(&self.ram, self.table.root, page, access) == Some(self.frame)
+                walk_page(&self.memory.ram, self.table.root, page, access) == Some(self.frame)
             }
             Act::WalksToNothing(access) => {
-                walk_page(&self.ram, self.table.root, page, access).is_none()
+                walk_page(&self.memory.ram, self.table.root, page, access).is_none()
             }
         }
     }
@@ -188,7 +185,7 @@ fn expect(rt: &(impl Abort + AllocGlobal), case: &Case) {
     let mut mapping = Mapping::new(rt, case.frames);
     for (at, (page, act, free)) in case.acts.iter().enumerate() {
         assert!(rt; *page < 1 << 27);
-        let told = (mapping.does(*page, *act), mapping.frames.free());
+        let told = (mapping.does(*page, *act), mapping.memory.frames.free());
         expect_row(rt, told == (true, *free), case.name, at);
     }
 }
@@ -202,10 +199,9 @@ fn pages_are_mapped_found_and_taken_out(rt: HostRuntime) {
 
 #[test]
 fn a_new_table_goes_back(rt: HostRuntime) {
-    let mut ram = memory(&rt, 2);
-    let mut frames = all_free(&rt, &mut ram);
-    let table = PageTable::new(&mut ram, &mut frames).expect(&rt, "a frame");
-    let free = frames.free();
-    table.destroy(&mut ram, &mut frames);
-    assert!(rt; (free, frames.free()) == (1, 2));
+    let mut memory = all_free(&rt, 2);
+    let table = PageTable::new(&mut memory).expect(&rt, "a frame");
+    let free = memory.frames.free();
+    table.destroy(&mut memory);
+    assert!(rt; (free, memory.frames.free()) == (1, 2));
 }

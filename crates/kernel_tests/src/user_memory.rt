@@ -1,10 +1,10 @@
 //! Address spaces that grow, are copied, read and written, and go.
 ghost use Rattle.std.specs.Prelude.{◌≡◌, ◌≤◌, slice_index};
-ghost use Rattle.vm.specs.Space.{IsSpace};
+ghost use Rattle.vm.specs.Owned.{IsSpace};
 
-use crate::expected::{all_free, expect_case, expect_row, memory};
-use frames::Frames;
-use ram::{FrameNo, Ram};
+use crate::expected::{all_free, expect_case, expect_row};
+use frames::Memory;
+use ram::FrameNo;
 use std::marker::Model;
 use std::process::Abort;
 use vm::{Perm, Space, VmFault};
@@ -24,8 +24,7 @@ const TEXT: Perm = Perm {
 // A memory with one space.
 #[derive(Drop)]
 struct Alone {
-    ram: Ram,
-    frames: Frames,
+    memory: Memory,
     space: Space,
 }
 
@@ -34,11 +33,11 @@ impl Model for Alone {
 
     ghost Value = { State };
 
-    ghost use Rattle.vm.specs.Space.{IsSpace};
+    ghost use Rattle.vm.specs.Owned.{IsSpace};
 
     ghost view = { λ a. a.space };
 
-    ghost invariant = { λ a. IsSpace a.ram a.space a.frames };
+    ghost invariant = { λ a. IsSpace a.memory a.space };
 }
 
 impl Alone {
@@ -46,34 +45,31 @@ impl Alone {
     fn new(rt: &(impl Abort + AllocGlobal), count: u32) -> Alone
         requires { count ≤ 32768 }
     {
-        let mut ram = memory(rt, count);
-        let mut frames = all_free(rt, &mut ram);
-        let Ok(space) = Space::new(&mut ram, &mut frames) else {
+        let mut memory = all_free(rt, count);
+        let Ok(space) = Space::new(&mut memory) else {
             panic!(rt; "too few frames")
         };
-        Alone { ram, frames, space }
+        Alone { memory, space }
     }
 
     fn free(&self) -> u32 {
-        self.frames.free()
+        self.memory.frames.free()
     }
 
     fn grow(&mut self, bytes: u64, perm: Perm) -> Result<(), VmFault> {
-        self.space
-            .grow(&mut self.ram, &mut self.frames, bytes, perm)
+        self.space.grow(&mut self.memory, bytes, perm)
     }
 
     fn shrink(&mut self, bytes: u64) -> bool {
         if bytes > self.space.size() {
             return false;
         }
-        self.space.shrink(&mut self.ram, &mut self.frames, bytes);
+        self.space.shrink(&mut self.memory, bytes);
         true
     }
 
     fn write(&mut self, address: u64, bytes: &[u8]) -> Result<(), VmFault> {
-        self.space
-            .copy_out(&mut self.ram, &mut self.frames, address, bytes)
+        self.space.copy_out(&mut self.memory, address, bytes)
     }
 
     // Puts four bytes into the first page, whatever its marks.
@@ -81,66 +77,57 @@ impl Alone {
         if address > 4092 || self.space.size() < 4096 {
             return false;
         }
-        self.space
-            .fill(&mut self.ram, &mut self.frames, address, bytes);
+        self.space.fill(&mut self.memory, address, bytes);
         true
     }
 
     fn save(&mut self, registers: &[u64; 32], pc: u64)
         requires { slice_index registers.now 0 ≡ 0 }
     {
-        self.space.save_regs(&mut self.ram, registers, pc);
+        self.space.save_regs(&mut self.memory.ram, registers, pc);
     }
 
     // A number of the trap frame, which is the second frame that a space takes.
     fn saved(&self, at: usize) -> Option<u64> {
-        if self.ram.frame_count() <= 1 || at > 4088 {
+        if self.memory.ram.frame_count() <= 1 || at > 4088 {
             return None;
         }
-        Some(self.ram.load_u64(FrameNo(1), at))
+        Some(self.memory.ram.load_u64(FrameNo(1), at))
     }
 
     fn load(&self, registers: &mut [u64; 32]) -> u64 {
-        self.space.load_regs(&self.ram, registers)
+        self.space.load_regs(&self.memory.ram, registers)
     }
 
     // A copy, instead of the space, whose frames stay taken.
     fn copied(self, rt: &impl Abort) -> Alone {
-        let Alone {
-            mut ram,
-            mut frames,
-            space,
-        } = self;
-        let space = space.copy(&mut ram, &mut frames).expect(rt, "frames");
-        Alone { ram, frames, space }
+        let Alone { mut memory, space } = self;
+        let space = space.copy(&mut memory).expect(rt, "frames");
+        Alone { memory, space }
     }
 
     // Why there can't be a copy.
     fn copy_fault(&mut self) -> Option<VmFault> {
-        self.space.copy(&mut self.ram, &mut self.frames).err()
+        self.space.copy(&mut self.memory).err()
     }
 
     // Gives back all frames of the space, and returns how many are free then.
     fn end(self) -> u32 {
-        let Alone {
-            mut ram,
-            mut frames,
-            space,
-        } = self;
-        space.destroy(&mut ram, &mut frames);
-        frames.free()
+        let Alone { mut memory, space } = self;
+        space.destroy(&mut memory);
+        memory.frames.free()
     }
 
     // The marks of a page.
     fn perm(&self, page: u64) -> Option<Perm> {
-        let (_frame, marks) = self.space.find_page(&self.ram, page)?;
+        let (_frame, marks) = self.space.find_page(&self.memory.ram, page)?;
         Some(marks.perm)
     }
 
     // Four bytes, or why they may not be read.
     fn read(&self, address: u64) -> Result<[u8; 4], VmFault> {
         let mut back = [0; 4];
-        self.space.copy_in(&self.ram, address, &mut back)?;
+        self.space.copy_in(&self.memory.ram, address, &mut back)?;
         Ok(back)
     }
 
@@ -148,7 +135,7 @@ impl Alone {
     fn string(&self, address: u64, room: usize) -> Option<usize> {
         let mut back = [0; 4];
         self.space
-            .copy_string(&self.ram, address, &mut back[..room.min(4)])
+            .copy_string(&self.memory.ram, address, &mut back[..room.min(4)])
     }
 
     // Whether the act is done, or holds, as expected.
@@ -161,12 +148,14 @@ impl Alone {
             Act::HasSize(size) => self.space.size() == size,
             Act::HasMarks(page, marks) => self.perm(page) == marks,
             Act::Read(address, told) => self.read(address) == told,
-            Act::IsReadable(address, bytes) => self.space.readable(&self.ram, address) == bytes,
+            Act::IsReadable(address, bytes) => {
+                self.space.readable(&self.memory.ram, address) == bytes
+            }
             Act::CanRead(address, count, can) => {
-                self.space.can_read(&self.ram, address, count) == can
+                self.space.can_read(&self.memory.ram, address, count) == can
             }
             Act::CanWrite(address, count, can) => {
-                self.space.can_write(&self.ram, address, count) == can
+                self.space.can_write(&self.memory.ram, address, count) == can
             }
             Act::HasString(address, room, count) => self.string(address, room) == count,
         }
@@ -281,12 +270,15 @@ fn copies_count_in_full(rt: HostRuntime) {
 }
 
 // Whether a page has the same frame in both spaces, and that has two holders.
-fn is_shared(ram: &Ram, frames: &Frames, one: &Space, other: &Space, page: u64) -> bool
-    requires one { IsSpace ram.now one.now frames.now }
-    requires other { IsSpace ram.now other.now frames.now }
+fn is_shared(memory: &Memory, one: &Space, other: &Space, page: u64) -> bool
+    requires one { IsSpace memory.now one.now }
+    requires other { IsSpace memory.now other.now }
 {
+    let ram = &memory.ram;
     match (one.find_page(ram, page), other.find_page(ram, page)) {
-        (Some((frame, _)), Some((same, _))) => frame == same && frames.holders(ram, frame) == 2,
+        (Some((frame, _)), Some((same, _))) => {
+            frame == same && memory.frames.holders(ram, frame) == 2
+        }
         _ => false,
     }
 }
@@ -295,19 +287,12 @@ fn is_shared(ram: &Ram, frames: &Frames, one: &Space, other: &Space, page: u64) 
 fn copies_share_each_frame(rt: HostRuntime) {
     let mut alone = Alone::new(&rt, 256);
     assert!(rt; alone.grow(50 * 4096, DATA) == Ok(()));
-    let Alone {
-        mut ram,
-        mut frames,
-        space,
-    } = alone;
-    let Ok(child) = space.copy(&mut ram, &mut frames) else {
+    let Alone { mut memory, space } = alone;
+    let Ok(child) = space.copy(&mut memory) else {
         panic!(rt; "too few frames")
     };
     for page in 0..50 {
-        assert!(rt;
-            is_shared(&ram, &frames, &space, &child, page),
-            "page {page}"
-        );
+        assert!(rt; is_shared(&memory, &space, &child, page), "page {page}");
     }
 }
 

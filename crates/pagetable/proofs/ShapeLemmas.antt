@@ -1,4 +1,6 @@
 -- Lemmas on the tables that are added and removed.
+use Rattle.frames.specs.declared.memory.Memory.{Memory}
+use Rattle.pagetable.specs.Owned.{Adds as AddsIn, Changes, Drops, MapsTo, Rewrites, TakesMissing}
 use Rattle.pagetable.proofs.Common.{Ram, Adds, ap, arith, cases_eq, extra_of, Frames, free_count, free_of, inl, inr}
 use Rattle.pagetable.proofs.Common.{Inserts, IsNode, IsPaged, IsTidy, IsUsed, length, length-append, lookup_of}
 use Rattle.pagetable.proofs.Common.{low_node, made, made_by, mid_node, missing, missing_by, Node, None, Option, refl}
@@ -7,6 +9,7 @@ use Rattle.pagetable.proofs.Common.{◌≡◌, ◌≢◌, ◌⊎◌, child_at, e
 use Rattle.pagetable.proofs.Common.{◌/◌, [], among, frame_of, free_of-same, get_or-set_other, IsEmpty, IsFreeList}
 use Rattle.pagetable.proofs.Common.{IsFreeList-same, IsLast, length-set, no_table, replicate, Root, SameTables}
 use Rattle.pagetable.proofs.Common.{slice_set, true, ◌∷◌}
+use Rattle.pagetable.specs.Tree.{Maps}
 use Rattle.pagetable.proofs.TreeLemmas.{cases_node, free_count-taken, child_of-some, leaf_of-some, child_of-zero}
 use Rattle.pagetable.proofs.TreeLemmas.{entry_of-zeros, free-first, further-taken, low_is_node, mid_is_node, no_low}
 use Rattle.pagetable.proofs.TreeLemmas.{root_at}
@@ -94,23 +97,25 @@ Inserts-after m k l r page value same ins =
     record { changed = ins.changed; others = λ p small ne. ins.others p small ne ∙ same p }
 
 -- what holds of a page that is mapped by these tables
-pub record IsMapped (m k : Ram) (r page : ℕ) (s n : Frames) : Type 0 where
-  pub adds : Adds m k r page s n
-  pub taken : free_count m s ≡ missing m r page + free_count k n
-  pub not_refused : ¬ (free_count m s < missing m r page)
-  pub tidy : IsTidy m r → IsTidy k r
+pub record IsMapped (m k : Memory) (r page f marks : ℕ) : Type 0 where
+  pub mapped : MapsTo m k r page f marks
+  pub taken : TakesMissing m k r page
+  pub not_refused : ¬ (free_count m.ram m.frames < missing m.ram r page)
 
-pub mapped-by : {m k : Ram} {r page : ℕ} {s n : Frames} {value : ℕ × ℕ}
-    → Inserts (lookup_of m r) (lookup_of k r) page value → page < 2 ^ 27 → IsPaged k r n → extra_of n ≡ extra_of s
-    → Adds m k r page s n → IsMapped m k r page s n
-mapped-by {m} {k} {r} {page} {s} {n} ins small is table adds =
-    let taken = free_count-taken m k s n (missing m r page)
-    (rw (adds.taken, length-append, length-made m k r page) refl) table is.free in
+pub mapped-by : {m k : Memory} {r page f marks : ℕ} → Maps m.ram k.ram r page f marks → page < 2 ^ 27 → Changes m k r
+    → AddsIn m k r page → IsMapped m k r page f marks
+mapped-by {m} {k} {r} {page} maps small changes adds =
+    let taken = free_count-taken m.ram k.ram m.frames k.frames (missing m.ram r page)
+    (rw (adds.taken, length-append, length-made m.ram k.ram r page) refl) changes.extra changes.paged.free in
     record {
-      adds = adds;
+      mapped = record {
+        maps = maps;
+        adds = adds;
+        tidy = λ tidy. IsTidy-insert k.ram tidy small maps adds.beside;
+        changes = changes;
+      };
       taken = taken;
       not_refused = λ less. absurd (omega arith);
-      tidy = λ tidy. IsTidy-insert k tidy small ins adds.beside;
     }
 
 -- ---- a page is removed
@@ -123,11 +128,11 @@ some-of None none = absurd (none refl)
 some-of (Some a) none = (a, refl)
 
 -- where the table whose entries map a page is there, none is added
-pub Adds-none : (m k : Ram) (r page : ℕ) (s : Frames) {u : ℕ} → table_at m r (low_node page) ≡ Some u
-    → SameTables m k r → free_of k s ≡ free_of m s → Adds m k r page s s
-Adds-none m k r page s low tables free =
+pub Adds-none : (m k : Ram) (r page : ℕ) (s n : Frames) {u : ℕ} → table_at m r (low_node page) ≡ Some u
+    → SameTables m k r → free_of k n ≡ free_of m s → Adds m k r page s n
+Adds-none m k r page s n low tables free =
     let mid = some-of (table_at m r (mid_node page)) (λ none. cc (no_low m r page none, low)) in
-    Adds-by m k r page s s (sym mid.1) (sym low) refl refl (tables (mid_node page) (mid_is_node page) ∙ mid.1)
+    Adds-by m k r page s n (sym mid.1) (sym low) refl refl (tables (mid_node page) (mid_is_node page) ∙ mid.1)
     (tables (low_node page) (low_is_node page) ∙ low) (λ x nx _ _. tables x nx) (sym free)
 
 -- the tables on the way to a page are in use where the page before it has the same and is mapped
@@ -213,50 +218,39 @@ pub Removes-after : (m k l : Ram) (r page : ℕ) → SameMap k l r → Removes (
 Removes-after m k l r page same rem =
     record { changed = same page ∙ rem.changed; others = λ p small ne. same p ∙ rem.others p small ne }
 
--- the entry of a page names nothing now
-pub record IsCleared (m k : Ram) (r page : ℕ) (s : Frames) : Type 0 where
-  pub tables : SameTables m k r
-  pub removes : Removes (lookup_of m r) (lookup_of k r) page
-  pub free : free_of k s ≡ free_of m s
-
--- the table at a node went back
-pub record IsDropped (m k : Ram) (r : ℕ) (x : Node) (t : ℕ) (s n : Frames) : Type 0 where
-  pub given : free_of k n ≡ t ∷ free_of m s
-  pub gone : table_at k r x ≡ None
-  pub beside : (y : Node) → IsNode y → y ≢ x → table_at k r y ≡ table_at m r y
-  pub same : SameMap m k r
-
 -- the tables on the way to a page
 pub record IsWay (m : Ram) (r page mid low : ℕ) : Type 0 where
   pub at_mid : table_at m r (mid_node page) ≡ Some mid
   pub at_low : table_at m r (low_node page) ≡ Some low
 
-module _ {m k a : Ram} {r page mid low : ℕ} {s n : Frames} (way : IsWay m r page mid low)
-    (clear : IsCleared m k r page s) (one : IsDropped k a r (low_node page) low s n) where
-  pub low-removes : Removes (lookup_of m r) (lookup_of a r) page
-  low-removes = Removes-after m k a r page one.same clear.removes
+module _ {m k a : Memory} {r page mid low : ℕ} (way : IsWay m.ram r page mid low)
+    (removes : Removes (lookup_of m.ram r) (lookup_of k.ram r) page) (clear : Rewrites m k r)
+    (one : Drops k a r (low_node page) low) where
+  pub low-removes : Removes (lookup_of m.ram r) (lookup_of a.ram r) page
+  low-removes = Removes-after m.ram k.ram a.ram r page one.same removes
 
-  pub low-mid : table_at a r (mid_node page) ≡ Some mid
+  pub low-mid : table_at a.ram r (mid_node page) ≡ Some mid
   low-mid = one.beside (mid_node page) (mid_is_node page) (λ e. cc)
       ∙ clear.tables (mid_node page) (mid_is_node page) ∙ way.at_mid
 
-  pub low-drops : Adds a m r page n s
-  low-drops = Adds-by a m r page n s (sym low-mid) (sym one.gone) refl refl way.at_mid way.at_low
+  pub low-drops : AddsIn a m r page
+  low-drops = Adds-by a.ram m.ram r page a.frames m.frames (sym low-mid) (sym one.gone) refl refl way.at_mid way.at_low
       (λ x nx _ nl. sym (one.beside x nx nl ∙ clear.tables x nx)) (rw clear.free at one.given)
 
-  module _ {b : Ram} {w : Frames} (two : IsDropped a b r (mid_node page) mid n w) where
-    pub both-low : table_at b r (low_node page) ≡ None
+  module _ {b : Memory} (two : Drops a b r (mid_node page) mid) where
+    pub both-low : table_at b.ram r (low_node page) ≡ None
     both-low = two.beside (low_node page) (low_is_node page) (λ e. cc) ∙ one.gone
 
-    pub both-removes : Removes (lookup_of m r) (lookup_of b r) page
-    both-removes = Removes-after m k b r page (λ p. two.same p ∙ one.same p) clear.removes
+    pub both-removes : Removes (lookup_of m.ram r) (lookup_of b.ram r) page
+    both-removes = Removes-after m.ram k.ram b.ram r page (λ p. two.same p ∙ one.same p) removes
 
-    pub both-drops : Adds b m r page w s
-    both-drops = Adds-by b m r page w s (sym two.gone) (sym both-low) refl refl way.at_mid way.at_low
+    pub both-drops : AddsIn b m r page
+    both-drops = Adds-by b.ram m.ram r page b.frames m.frames (sym two.gone) (sym both-low) refl refl way.at_mid
+        way.at_low
         (λ x nx nm nl. sym (two.beside x nx nm ∙ one.beside x nx nl ∙ clear.tables x nx))
         (two.given ∙ ap (λ l. mid ∷ l) (rw clear.free at one.given))
 
-    pub both-tidy : IsTidy m r → IsTidy b r
+    pub both-tidy : IsTidy m.ram r → IsTidy b.ram r
     both-tidy is = IsTidy-remove is both-removes both-drops (λ t h. absurd (some-none (sym h ∙ two.gone)))
         (λ t h. absurd (some-none (sym h ∙ both-low)))
 

@@ -1,4 +1,6 @@
 -- What writes leave of a page table.
+use Rattle.frames.specs.declared.memory.Memory.{Memory}
+use Rattle.pagetable.specs.Owned as owned
 use Rattle.pagetable.proofs.Common.{Ram, [], a_table, among, among_first, among_first_not, ap, apart-not, arith, base}
 use Rattle.pagetable.proofs.Common.{cases_eq, cases_lt, child_at, child_of, entry_of, extra_of, false, frame_of, Frames}
 use Rattle.pagetable.proofs.Common.{free_count, free_of, free_of-same, further-free, further_at, get_or}
@@ -404,6 +406,14 @@ module _ {m k l : Ram} {r : ℕ} {s q n : Frames} (one : Keeps m k r s q) (two :
     others = λ v out free. let mid = one.outside v out free in two.others v mid.0 mid.1 ∙ one.others v out free;
     outside = λ v out free. let mid = one.outside v out free in two.outside v mid.0 mid.1;
   }
+
+-- a change that keeps what others hold, and one after it
+pub rewrites-changes : {m k : Memory} {r : ℕ} → owned.Rewrites m k r → owned.Changes m k r
+rewrites-changes w = record { paged = w.paged; keeps = w.keeps; extra = ap extra_of w.holders }
+
+pub changes-twice : {m k l : Memory} {r : ℕ} → owned.Changes m k r → owned.Changes k l r → owned.Changes m l r
+changes-twice one two =
+    record { paged = two.paged; keeps = Keeps-twice one.keeps two.keeps; extra = two.extra ∙ one.extra }
 
 -- an empty table in the first free frame u, to which entry c of the table t at x leads now
 pub record Attaches (m k : Ram) (r : ℕ) (s n : Frames) (x : Node) (t c u : ℕ) : Type 0 where

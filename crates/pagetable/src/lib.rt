@@ -9,18 +9,20 @@
 ghost use Rattle.std.specs.Prelude.{◌≡◌, ◌≢◌, ℕ, ◌+◌, ◌-◌, ◌*◌, ◌/◌, ◌%◌, ◌^◌, ◌<◌, ◌≤◌, List, [], ◌∷◌, None, Some};
 ghost use Rattle.std.specs.Prelude.{true, false, length, OnOk, OnErr, IsErr, IsTrue, ◌↔◌, IfSome, IfNone};
 ghost use Rattle.std.specs.Option.{option_map};
-ghost use Rattle.frames.specs.Free.{among, free_of, free_count, extra_of, IsFreeList, SameBut};
+ghost use Rattle.frames.specs.Free.{among, SameBut};
+ghost use Rattle.frames.specs.Owned.{free_of, free_count, extra_of, IsFreeList};
 ghost use Rattle.frames.specs.Holders.{one_if};
 ghost use Rattle.sv39.specs.Walk.{base, entry_of, numbered};
 ghost use Rattle.pagetable.specs.Agree.{WalksByMap};
 ghost use Rattle.pagetable.specs.Marks.{leaf_marks};
-ghost use Rattle.pagetable.specs.Shape.{table_of, IsLast, IsTidy, IsEmpty, Adds, Removes};
+ghost use Rattle.pagetable.specs.Owned.{Creates, Drops, IsPaged, Makes, MapsTo, Rewrites, TakesMissing, Unmaps};
+ghost use Rattle.pagetable.specs.Shape.{table_of, IsLast, IsTidy, IsEmpty, Removes};
 ghost use Rattle.pagetable.specs.Tree.{Root, table_entry, leaf_entry, child_of, leaf_of, table_at, low_node, mid_node};
-ghost use Rattle.pagetable.specs.Tree.{lookup_of, IsTableEntry, IsLeafEntry, IsLeafMarks, IsTree, IsPaged, Keeps};
+ghost use Rattle.pagetable.specs.Tree.{lookup_of, IsTableEntry, IsLeafEntry, IsLeafMarks, IsTree};
 ghost use Rattle.pagetable.specs.Tree.{HasTable, Writes, Links, missing, Maps, SameMap, SameTables, SameTablesBut};
-ghost use Rattle.pagetable.specs.Tree.{SetsMarks, TakesMissing};
+ghost use Rattle.pagetable.specs.Tree.{SetsMarks};
 
-use frames::Frames;
+use frames::Memory;
 use ram::{FrameNo, Ram};
 use sv39::{BASE, EntryBits};
 
@@ -121,22 +123,22 @@ fn leaf(ram: &Ram, table: FrameNo, index: u64) -> Option<(FrameNo, EntryBits)>
 }
 
 // Makes an entry of a table name a free frame, which becomes an empty table.
-fn link(ram: &mut Ram, frames: &mut Frames, table: FrameNo, index: u64) -> FrameNo
-    requires table { table.0 < length ram.old }
+fn link(memory: &mut Memory, table: FrameNo, index: u64) -> FrameNo
+    requires table { table.0 < length memory.old.ram }
     requires index { index < 512 }
-    requires valid { IsFreeList ram.old frames.old }
-    requires some { 0 < free_count ram.old frames.old }
-    requires apart { among table.0 (free_of ram.old frames.old) ≡ false }
-    ensures taken { free_of ram.old frames.old ≡ result.0 ∷ free_of ram.new frames.new }
-    ensures valid { IsFreeList ram.new frames.new }
-    ensures links { Links ram.old ram.new table.0 index result.0 }
-    ensures extra { extra_of frames.new ≡ extra_of frames.old }
+    requires valid { IsFreeList memory.old }
+    requires some { 0 < free_count memory.old }
+    requires apart { among table.0 (free_of memory.old) ≡ false }
+    ensures taken { free_of memory.old ≡ result.0 ∷ free_of memory.new }
+    ensures valid { IsFreeList memory.new }
+    ensures links { Links memory.old.ram memory.new.ram table.0 index result.0 }
+    ensures extra { extra_of memory.new ≡ extra_of memory.old }
 {
-    ram.frames_are_whole();
-    let fresh = frames.take(ram).unwrap();
-    ram.zero(fresh);
-    ram.frames_are_whole();
-    ram.store_u64(
+    memory.ram.frames_are_whole();
+    let fresh = memory.frames.take(&memory.ram).unwrap();
+    memory.ram.zero(fresh);
+    memory.ram.frames_are_whole();
+    memory.ram.store_u64(
         table,
         ENTRY_SIZE * index as usize,
         (BASE + u64::from(fresh.0)) * FRAME_UNIT + u64::from(EntryBits::VALID.0),
@@ -188,21 +190,16 @@ impl PageTable {
     ghost use Rattle.std.specs.Prelude.{slice_set, replicate};
 
     /// A page table that maps nothing, in a free frame; `None` if no frame is free.
-    pub fn new(ram: &mut Ram, frames: &mut Frames) -> Option<PageTable>
-        requires { IsFreeList ram.old frames.old }
-        ensures paged { IfSome result (λ t. IsPaged ram.new t.root.0 frames.new) }
-        ensures empty { IfSome result (λ t. IsEmpty ram.new t.root.0) }
-        ensures tidy { IfSome result (λ t. IsTidy ram.new t.root.0) }
-        ensures taken { IfSome result (λ t. free_of ram.old frames.old ≡ t.root.0 ∷ free_of ram.new frames.new) }
-        ensures bytes { IfSome result (λ t. ram.new ≡ slice_set ram.old t.root.0 (replicate 4096 0)) }
-        ensures none { IfNone result
-            ((free_count ram.old frames.old ≡ 0) × (ram.new ≡ ram.old) × (frames.new ≡ frames.old)) }
-        ensures extra { extra_of frames.new ≡ extra_of frames.old }
+    pub fn new(memory: &mut Memory) -> Option<PageTable>
+        requires { IsFreeList memory.old }
+        ensures some { IfSome result (λ t. Creates memory.old memory.new t.root.0) }
+        ensures none { IfNone result ((free_count memory.old ≡ 0) × (memory.new ≡ memory.old)) }
+        ensures extra { extra_of memory.new ≡ extra_of memory.old }
     {
-        ram.frames_are_whole();
-        match frames.take(ram) {
+        memory.ram.frames_are_whole();
+        match memory.frames.take(&memory.ram) {
             Some(root) => {
-                ram.zero(root);
+                memory.ram.zero(root);
                 Some(PageTable { root })
             }
             None => None,
@@ -267,61 +264,45 @@ impl PageTable {
     }
 
     // Makes the table of the middle level on the way to a page.
-    fn make_mid(&self, ram: &mut Ram, frames: &mut Frames, page: u64) -> FrameNo
-        requires paged { IsPaged ram.old self.now.root.0 frames.old }
-        requires absent { table_at ram.old self.now.root.0 (mid_node page) ≡ None }
-        requires some { 0 < free_count ram.old frames.old }
-        ensures paged { IsPaged ram.new self.now.root.0 frames.new }
-        ensures there { table_at ram.new self.now.root.0 (mid_node page) ≡ Some result.0 }
-        ensures below { table_at ram.new self.now.root.0 (low_node page) ≡ None }
-        ensures taken { free_of ram.old frames.old ≡ result.0 ∷ free_of ram.new frames.new }
-        ensures beside { SameTablesBut ram.old ram.new self.now.root.0 (mid_node page) }
-        ensures same { SameMap ram.old ram.new self.now.root.0 }
-        ensures keeps { Keeps ram.old ram.new self.now.root.0 frames.old frames.new }
-        ensures extra { extra_of frames.new ≡ extra_of frames.old }
+    fn make_mid(&self, memory: &mut Memory, page: u64) -> FrameNo
+        requires paged { IsPaged memory.old self.now.root.0 }
+        requires absent { table_at memory.old.ram self.now.root.0 (mid_node page) ≡ None }
+        requires some { 0 < free_count memory.old }
+        ensures made { Makes memory.old memory.new self.now.root.0 (mid_node page) result.0 }
+        ensures below { table_at memory.new.ram self.now.root.0 (low_node page) ≡ None }
     {
-        link(ram, frames, self.root, page / MID_PAGES % ENTRIES)
+        link(memory, self.root, page / MID_PAGES % ENTRIES)
     }
 
     // Makes the table whose entries map a page.
-    fn make_low(&self, ram: &mut Ram, frames: &mut Frames, page: u64, mid: FrameNo) -> FrameNo
-        requires paged { IsPaged ram.old self.now.root.0 frames.old }
-        requires mid { table_at ram.old self.now.root.0 (mid_node page) ≡ Some mid.0 }
-        requires absent { table_at ram.old self.now.root.0 (low_node page) ≡ None }
-        requires some { 0 < free_count ram.old frames.old }
-        ensures paged { IsPaged ram.new self.now.root.0 frames.new }
-        ensures there { table_at ram.new self.now.root.0 (low_node page) ≡ Some result.0 }
-        ensures taken { free_of ram.old frames.old ≡ result.0 ∷ free_of ram.new frames.new }
-        ensures beside { SameTablesBut ram.old ram.new self.now.root.0 (low_node page) }
-        ensures same { SameMap ram.old ram.new self.now.root.0 }
-        ensures keeps { Keeps ram.old ram.new self.now.root.0 frames.old frames.new }
-        ensures extra { extra_of frames.new ≡ extra_of frames.old }
+    fn make_low(&self, memory: &mut Memory, page: u64, mid: FrameNo) -> FrameNo
+        requires paged { IsPaged memory.old self.now.root.0 }
+        requires mid { table_at memory.old.ram self.now.root.0 (mid_node page) ≡ Some mid.0 }
+        requires absent { table_at memory.old.ram self.now.root.0 (low_node page) ≡ None }
+        requires some { 0 < free_count memory.old }
+        ensures { Makes memory.old memory.new self.now.root.0 (low_node page) result.0 }
     {
-        link(ram, frames, mid, page / LOW_PAGES % ENTRIES)
+        link(memory, mid, page / LOW_PAGES % ENTRIES)
     }
 
     // Makes the entry of a page map to a frame.
     fn set_leaf(
         &self,
-        ram: &mut Ram,
-        frames: &Frames,
+        memory: &mut Memory,
         page: u64,
         low: FrameNo,
         frame: FrameNo,
         marks: EntryBits,
     )
-        requires paged { IsPaged ram.old self.now.root.0 frames.now }
-        requires low { table_at ram.old self.now.root.0 (low_node page) ≡ Some low.0 }
+        requires paged { IsPaged memory.old self.now.root.0 }
+        requires low { table_at memory.old.ram self.now.root.0 (low_node page) ≡ Some low.0 }
         requires page { page < 2 ^ 27 }
-        requires frame { frame.0 < length ram.old }
+        requires frame { frame.0 < length memory.old.ram }
         requires marks { IsLeafMarks marks.0 }
-        ensures paged { IsPaged ram.new self.now.root.0 frames.now }
-        ensures tables { SameTables ram.old ram.new self.now.root.0 }
-        ensures inserts { Maps ram.old ram.new self.now.root.0 page frame.0 marks.0 }
-        ensures free { free_of ram.new frames.now ≡ free_of ram.old frames.now }
-        ensures keeps { Keeps ram.old ram.new self.now.root.0 frames.now frames.now }
+        ensures maps { Maps memory.old.ram memory.new.ram self.now.root.0 page frame.0 marks.0 }
+        ensures rewrites { Rewrites memory.old memory.new self.now.root.0 }
     {
-        write(ram, low, page % ENTRIES, frame, marks);
+        write(&mut memory.ram, low, page % ENTRIES, frame, marks);
     }
 
     /// Maps a page to a frame, instead of what it was mapped to.
@@ -330,49 +311,42 @@ impl PageTable {
     /// cleared first. Where fewer frames are free than that it changes nothing and returns `Full`.
     pub fn map(
         &self,
-        ram: &mut Ram,
-        frames: &mut Frames,
+        memory: &mut Memory,
         page: u64,
         frame: FrameNo,
         marks: EntryBits,
     ) -> Result<(), Full>
-        requires paged { IsPaged ram.old self.now.root.0 frames.old }
+        requires paged { IsPaged memory.old self.now.root.0 }
         requires page { page < 2 ^ 27 }
-        requires frame { frame.0 < length ram.old }
+        requires frame { frame.0 < length memory.old.ram }
         requires marks { IsLeafMarks marks.0 }
-        ensures mapped { OnOk result (Maps ram.old ram.new self.now.root.0 page frame.0 marks.0) }
-        ensures taken { OnOk result (TakesMissing ram.old ram.new self.now.root.0 frames.old frames.new page) }
-        ensures adds { OnOk result (Adds ram.old ram.new self.now.root.0 page frames.old frames.new) }
-        ensures tidy { IsTidy ram.old self.now.root.0 → IsTidy ram.new self.now.root.0 }
-        ensures refused { IsErr result ↔ (free_count ram.old frames.old < missing ram.old self.now.root.0 page) }
-        ensures full { OnErr result (free_count ram.old frames.old < missing ram.old self.now.root.0 page) }
-        ensures unchanged { OnErr result ((ram.new ≡ ram.old) × (frames.new ≡ frames.old)) }
-        ensures paged { IsPaged ram.new self.now.root.0 frames.new }
-        ensures keeps { Keeps ram.old ram.new self.now.root.0 frames.old frames.new }
-        ensures extra { extra_of frames.new ≡ extra_of frames.old }
+        ensures mapped { OnOk result (MapsTo memory.old memory.new self.now.root.0 page frame.0 marks.0) }
+        ensures taken { OnOk result (TakesMissing memory.old memory.new self.now.root.0 page) }
+        ensures refused { IsErr result ↔ (free_count memory.old < missing memory.old.ram self.now.root.0 page) }
+        ensures unchanged { OnErr result (memory.new ≡ memory.old) }
     {
-        match self.mid_table(ram, page) {
-            Some(mid) => match self.low_table(ram, page) {
+        match self.mid_table(&memory.ram, page) {
+            Some(mid) => match self.low_table(&memory.ram, page) {
                 Some(low) => {
-                    self.set_leaf(ram, frames, page, low, frame, marks);
+                    self.set_leaf(memory, page, low, frame, marks);
                     Ok(())
                 }
                 None => {
-                    if frames.free() < 1 {
+                    if memory.frames.free() < 1 {
                         return Err(Full);
                     }
-                    let low = self.make_low(ram, frames, page, mid);
-                    self.set_leaf(ram, frames, page, low, frame, marks);
+                    let low = self.make_low(memory, page, mid);
+                    self.set_leaf(memory, page, low, frame, marks);
                     Ok(())
                 }
             },
             None => {
-                if frames.free() < 2 {
+                if memory.frames.free() < 2 {
                     return Err(Full);
                 }
-                let mid = self.make_mid(ram, frames, page);
-                let low = self.make_low(ram, frames, page, mid);
-                self.set_leaf(ram, frames, page, low, frame, marks);
+                let mid = self.make_mid(memory, page);
+                let low = self.make_low(memory, page, mid);
+                self.set_leaf(memory, page, low, frame, marks);
                 Ok(())
             }
         }
@@ -381,110 +355,85 @@ impl PageTable {
     /// Maps a page to a frame, instead of what it was mapped to, where the table whose entries map it is there.
     pub fn map_in(
         &self,
-        ram: &mut Ram,
-        frames: &Frames,
+        memory: &mut Memory,
         low: FrameNo,
         page: u64,
         frame: FrameNo,
         marks: EntryBits,
     )
-        requires paged { IsPaged ram.old self.now.root.0 frames.now }
-        requires low { table_at ram.old self.now.root.0 (low_node page) ≡ Some low.0 }
+        requires paged { IsPaged memory.old self.now.root.0 }
+        requires low { table_at memory.old.ram self.now.root.0 (low_node page) ≡ Some low.0 }
         requires page { page < 2 ^ 27 }
-        requires frame { frame.0 < length ram.old }
+        requires frame { frame.0 < length memory.old.ram }
         requires marks { IsLeafMarks marks.0 }
-        ensures mapped { Maps ram.old ram.new self.now.root.0 page frame.0 marks.0 }
-        ensures adds { Adds ram.old ram.new self.now.root.0 page frames.now frames.now }
-        ensures tables { SameTables ram.old ram.new self.now.root.0 }
-        ensures tidy { IsTidy ram.old self.now.root.0 → IsTidy ram.new self.now.root.0 }
-        ensures paged { IsPaged ram.new self.now.root.0 frames.now }
-        ensures keeps { Keeps ram.old ram.new self.now.root.0 frames.now frames.now }
+        ensures mapped { MapsTo memory.old memory.new self.now.root.0 page frame.0 marks.0 }
+        ensures rewrites { Rewrites memory.old memory.new self.now.root.0 }
     {
-        self.set_leaf(ram, frames, page, low, frame, marks);
+        self.set_leaf(memory, page, low, frame, marks);
     }
 
     /// Sets the marks of a page that is mapped; its frame stays.
-    pub fn set_perm(&self, ram: &mut Ram, frames: &Frames, page: u64, marks: EntryBits)
-        requires paged { IsPaged ram.old self.now.root.0 frames.now }
+    pub fn set_perm(&self, memory: &mut Memory, page: u64, marks: EntryBits)
+        requires paged { IsPaged memory.old self.now.root.0 }
         requires page { page < 2 ^ 27 }
-        requires mapped { lookup_of ram.old self.now.root.0 page ≢ None }
+        requires mapped { lookup_of memory.old.ram self.now.root.0 page ≢ None }
         requires marks { IsLeafMarks marks.0 }
-        ensures paged { IsPaged ram.new self.now.root.0 frames.now }
-        ensures inserts { SetsMarks ram.old ram.new self.now.root.0 page marks.0 }
-        ensures tidy { IsTidy ram.old self.now.root.0 → IsTidy ram.new self.now.root.0 }
-        ensures tables { SameTables ram.old ram.new self.now.root.0 }
-        ensures free { free_of ram.new frames.now ≡ free_of ram.old frames.now }
-        ensures keeps { Keeps ram.old ram.new self.now.root.0 frames.now frames.now }
+        ensures sets { SetsMarks memory.old.ram memory.new.ram self.now.root.0 page marks.0 }
+        ensures rewrites { Rewrites memory.old memory.new self.now.root.0 }
+        ensures tidy { IsTidy memory.old.ram self.now.root.0 → IsTidy memory.new.ram self.now.root.0 }
     {
-        let way = self.way(ram, page);
-        self.set_leaf(ram, frames, page, way.low, way.frame, marks);
+        let way = self.way(&memory.ram, page);
+        self.set_leaf(memory, page, way.low, way.frame, marks);
     }
 
     /// Maps a page that is mapped to another frame with other marks. No table is added or removed.
-    pub fn remap(&self, ram: &mut Ram, frames: &Frames, page: u64, frame: FrameNo, marks: EntryBits)
-        requires paged { IsPaged ram.old self.now.root.0 frames.now }
+    pub fn remap(&self, memory: &mut Memory, page: u64, frame: FrameNo, marks: EntryBits)
+        requires paged { IsPaged memory.old self.now.root.0 }
         requires page { page < 2 ^ 27 }
-        requires mapped { lookup_of ram.old self.now.root.0 page ≢ None }
-        requires frame { frame.0 < length ram.old }
+        requires mapped { lookup_of memory.old.ram self.now.root.0 page ≢ None }
+        requires frame { frame.0 < length memory.old.ram }
         requires marks { IsLeafMarks marks.0 }
-        ensures paged { IsPaged ram.new self.now.root.0 frames.now }
-        ensures inserts { Maps ram.old ram.new self.now.root.0 page frame.0 marks.0 }
-        ensures tidy { IsTidy ram.old self.now.root.0 → IsTidy ram.new self.now.root.0 }
-        ensures tables { SameTables ram.old ram.new self.now.root.0 }
-        ensures free { free_of ram.new frames.now ≡ free_of ram.old frames.now }
-        ensures keeps { Keeps ram.old ram.new self.now.root.0 frames.now frames.now }
+        ensures maps { Maps memory.old.ram memory.new.ram self.now.root.0 page frame.0 marks.0 }
+        ensures rewrites { Rewrites memory.old memory.new self.now.root.0 }
+        ensures tidy { IsTidy memory.old.ram self.now.root.0 → IsTidy memory.new.ram self.now.root.0 }
     {
-        let low = self.low_table(ram, page).unwrap();
-        self.set_leaf(ram, frames, page, low, frame, marks);
+        let low = self.low_table(&memory.ram, page).unwrap();
+        self.set_leaf(memory, page, low, frame, marks);
     }
 
     // Gives back a table of the lowest level that maps nothing.
-    fn drop_low(&self, ram: &mut Ram, frames: &mut Frames, page: u64, mid: FrameNo, low: FrameNo)
-        requires paged { IsPaged ram.old self.now.root.0 frames.old }
-        requires mid { table_at ram.old self.now.root.0 (mid_node page) ≡ Some mid.0 }
-        requires low { table_at ram.old self.now.root.0 (low_node page) ≡ Some low.0 }
-        requires empty { (i : ℕ) → i < 512 → entry_of ram.old low.0 i ≡ 0 }
-        ensures paged { IsPaged ram.new self.now.root.0 frames.new }
-        ensures given { free_of ram.new frames.new ≡ low.0 ∷ free_of ram.old frames.old }
-        ensures gone { table_at ram.new self.now.root.0 (low_node page) ≡ None }
-        ensures beside { SameTablesBut ram.old ram.new self.now.root.0 (low_node page) }
-        ensures same { SameMap ram.old ram.new self.now.root.0 }
-        ensures keeps { Keeps ram.old ram.new self.now.root.0 frames.old frames.new }
-        ensures extra { extra_of frames.new ≡ extra_of frames.old }
+    fn drop_low(&self, memory: &mut Memory, page: u64, mid: FrameNo, low: FrameNo)
+        requires paged { IsPaged memory.old self.now.root.0 }
+        requires mid { table_at memory.old.ram self.now.root.0 (mid_node page) ≡ Some mid.0 }
+        requires low { table_at memory.old.ram self.now.root.0 (low_node page) ≡ Some low.0 }
+        requires empty { (i : ℕ) → i < 512 → entry_of memory.old.ram low.0 i ≡ 0 }
+        ensures { Drops memory.old memory.new self.now.root.0 (low_node page) low.0 }
     {
-        clear(ram, mid, page / LOW_PAGES % ENTRIES);
-        frames.give(ram, low);
+        clear(&mut memory.ram, mid, page / LOW_PAGES % ENTRIES);
+        memory.frames.give(&mut memory.ram, low);
     }
 
     // Gives back a table of the middle level that names nothing.
-    fn drop_mid(&self, ram: &mut Ram, frames: &mut Frames, page: u64, mid: FrameNo)
-        requires paged { IsPaged ram.old self.now.root.0 frames.old }
-        requires mid { table_at ram.old self.now.root.0 (mid_node page) ≡ Some mid.0 }
-        requires empty { (i : ℕ) → i < 512 → entry_of ram.old mid.0 i ≡ 0 }
-        ensures paged { IsPaged ram.new self.now.root.0 frames.new }
-        ensures given { free_of ram.new frames.new ≡ mid.0 ∷ free_of ram.old frames.old }
-        ensures gone { table_at ram.new self.now.root.0 (mid_node page) ≡ None }
-        ensures beside { SameTablesBut ram.old ram.new self.now.root.0 (mid_node page) }
-        ensures same { SameMap ram.old ram.new self.now.root.0 }
-        ensures keeps { Keeps ram.old ram.new self.now.root.0 frames.old frames.new }
-        ensures extra { extra_of frames.new ≡ extra_of frames.old }
+    fn drop_mid(&self, memory: &mut Memory, page: u64, mid: FrameNo)
+        requires paged { IsPaged memory.old self.now.root.0 }
+        requires mid { table_at memory.old.ram self.now.root.0 (mid_node page) ≡ Some mid.0 }
+        requires empty { (i : ℕ) → i < 512 → entry_of memory.old.ram mid.0 i ≡ 0 }
+        ensures { Drops memory.old memory.new self.now.root.0 (mid_node page) mid.0 }
     {
-        clear(ram, self.root, page / MID_PAGES % ENTRIES);
-        frames.give(ram, mid);
+        clear(&mut memory.ram, self.root, page / MID_PAGES % ENTRIES);
+        memory.frames.give(&mut memory.ram, mid);
     }
 
     // Makes the entry of a page name nothing.
-    fn clear_leaf(&self, ram: &mut Ram, frames: &Frames, page: u64, low: FrameNo)
-        requires paged { IsPaged ram.old self.now.root.0 frames.now }
-        requires low { table_at ram.old self.now.root.0 (low_node page) ≡ Some low.0 }
+    fn clear_leaf(&self, memory: &mut Memory, page: u64, low: FrameNo)
+        requires paged { IsPaged memory.old self.now.root.0 }
+        requires low { table_at memory.old.ram self.now.root.0 (low_node page) ≡ Some low.0 }
         requires page { page < 2 ^ 27 }
-        ensures paged { IsPaged ram.new self.now.root.0 frames.now }
-        ensures tables { SameTables ram.old ram.new self.now.root.0 }
-        ensures removes { Removes (lookup_of ram.old self.now.root.0) (lookup_of ram.new self.now.root.0) page }
-        ensures free { free_of ram.new frames.now ≡ free_of ram.old frames.now }
-        ensures keeps { Keeps ram.old ram.new self.now.root.0 frames.now frames.now }
+        ensures removes { Removes (lookup_of memory.old.ram self.now.root.0) (lookup_of memory.new.ram self.now.root.0)
+            page }
+        ensures rewrites { Rewrites memory.old memory.new self.now.root.0 }
     {
-        clear(ram, low, page % ENTRIES);
+        clear(&mut memory.ram, low, page % ENTRIES);
     }
 
     // The way to a page that is mapped.
@@ -505,29 +454,23 @@ impl PageTable {
     ///
     /// A table that maps nothing from then on goes back to the free frames, so no table except the root
     /// is ever empty. The page's own frame is the caller's.
-    pub fn unmap(&self, ram: &mut Ram, frames: &mut Frames, page: u64) -> FrameNo
-        requires paged { IsPaged ram.old self.now.root.0 frames.old }
-        requires tidy { IsTidy ram.old self.now.root.0 }
+    pub fn unmap(&self, memory: &mut Memory, page: u64) -> FrameNo
+        requires paged { IsPaged memory.old self.now.root.0 }
+        requires tidy { IsTidy memory.old.ram self.now.root.0 }
         requires page { page < 2 ^ 27 }
-        requires mapped { lookup_of ram.old self.now.root.0 page ≢ None }
-        ensures was { option_map (λ x. x.0) (lookup_of ram.old self.now.root.0 page) ≡ Some result.0 }
-        ensures removes { Removes (lookup_of ram.old self.now.root.0) (lookup_of ram.new self.now.root.0) page }
-        ensures drops { Adds ram.new ram.old self.now.root.0 page frames.new frames.old }
-        ensures tidy { IsTidy ram.new self.now.root.0 }
-        ensures paged { IsPaged ram.new self.now.root.0 frames.new }
-        ensures keeps { Keeps ram.old ram.new self.now.root.0 frames.old frames.new }
-        ensures extra { extra_of frames.new ≡ extra_of frames.old }
+        requires mapped { lookup_of memory.old.ram self.now.root.0 page ≢ None }
+        ensures { Unmaps memory.old memory.new self.now.root.0 page result.0 }
     {
-        let way = self.way(ram, page);
-        self.clear_leaf(ram, frames, page, way.low);
-        if is_used(ram, way.low) {
+        let way = self.way(&memory.ram, page);
+        self.clear_leaf(memory, page, way.low);
+        if is_used(&memory.ram, way.low) {
             return way.frame;
         }
-        self.drop_low(ram, frames, page, way.mid, way.low);
-        if is_used(ram, way.mid) {
+        self.drop_low(memory, page, way.mid, way.low);
+        if is_used(&memory.ram, way.mid) {
             return way.frame;
         }
-        self.drop_mid(ram, frames, page, way.mid);
+        self.drop_mid(memory, page, way.mid);
         way.frame
     }
 
@@ -535,24 +478,18 @@ impl PageTable {
     ///
     /// Both tables on the way to it go back to the free frames, and nothing is looked through: `unmap` reads each table
     /// that it gives back. The page's own frame is the caller's.
-    pub fn unmap_last(&self, ram: &mut Ram, frames: &mut Frames, page: u64) -> FrameNo
-        requires paged { IsPaged ram.old self.now.root.0 frames.old }
-        requires tidy { IsTidy ram.old self.now.root.0 }
+    pub fn unmap_last(&self, memory: &mut Memory, page: u64) -> FrameNo
+        requires paged { IsPaged memory.old self.now.root.0 }
+        requires tidy { IsTidy memory.old.ram self.now.root.0 }
         requires page { page < 2 ^ 27 }
-        requires mapped { lookup_of ram.old self.now.root.0 page ≢ None }
-        requires last { IsLast ram.old self.now.root.0 page }
-        ensures was { option_map (λ x. x.0) (lookup_of ram.old self.now.root.0 page) ≡ Some result.0 }
-        ensures removes { Removes (lookup_of ram.old self.now.root.0) (lookup_of ram.new self.now.root.0) page }
-        ensures drops { Adds ram.new ram.old self.now.root.0 page frames.new frames.old }
-        ensures tidy { IsTidy ram.new self.now.root.0 }
-        ensures paged { IsPaged ram.new self.now.root.0 frames.new }
-        ensures keeps { Keeps ram.old ram.new self.now.root.0 frames.old frames.new }
-        ensures extra { extra_of frames.new ≡ extra_of frames.old }
+        requires mapped { lookup_of memory.old.ram self.now.root.0 page ≢ None }
+        requires last { IsLast memory.old.ram self.now.root.0 page }
+        ensures { Unmaps memory.old memory.new self.now.root.0 page result.0 }
     {
-        let way = self.way(ram, page);
-        self.clear_leaf(ram, frames, page, way.low);
-        self.drop_low(ram, frames, page, way.mid, way.low);
-        self.drop_mid(ram, frames, page, way.mid);
+        let way = self.way(&memory.ram, page);
+        self.clear_leaf(memory, page, way.low);
+        self.drop_low(memory, page, way.mid, way.low);
+        self.drop_mid(memory, page, way.mid);
         way.frame
     }
 
@@ -560,36 +497,31 @@ impl PageTable {
     /// to.
     ///
     /// No table is looked through, and none is given back. The page's own frame is the caller's.
-    pub fn unmap_in(&self, ram: &mut Ram, frames: &Frames, low: FrameNo, page: u64) -> FrameNo
-        requires paged { IsPaged ram.old self.now.root.0 frames.now }
-        requires tidy { IsTidy ram.old self.now.root.0 }
-        requires low { table_at ram.old self.now.root.0 (low_node page) ≡ Some low.0 }
+    pub fn unmap_in(&self, memory: &mut Memory, low: FrameNo, page: u64) -> FrameNo
+        requires paged { IsPaged memory.old self.now.root.0 }
+        requires tidy { IsTidy memory.old.ram self.now.root.0 }
+        requires low { table_at memory.old.ram self.now.root.0 (low_node page) ≡ Some low.0 }
         requires page { page < 2 ^ 27 }
-        requires mapped { lookup_of ram.old self.now.root.0 page ≢ None }
+        requires mapped { lookup_of memory.old.ram self.now.root.0 page ≢ None }
         requires inner { page % 512 ≢ 0 }
-        requires before { lookup_of ram.old self.now.root.0 (page - 1) ≢ None }
-        ensures was { option_map (λ x. x.0) (lookup_of ram.old self.now.root.0 page) ≡ Some result.0 }
-        ensures removes { Removes (lookup_of ram.old self.now.root.0) (lookup_of ram.new self.now.root.0) page }
-        ensures drops { Adds ram.new ram.old self.now.root.0 page frames.now frames.now }
-        ensures tables { SameTables ram.old ram.new self.now.root.0 }
-        ensures tidy { IsTidy ram.new self.now.root.0 }
-        ensures paged { IsPaged ram.new self.now.root.0 frames.now }
-        ensures keeps { Keeps ram.old ram.new self.now.root.0 frames.now frames.now }
+        requires before { lookup_of memory.old.ram self.now.root.0 (page - 1) ≢ None }
+        ensures unmaps { Unmaps memory.old memory.new self.now.root.0 page result.0 }
+        ensures rewrites { Rewrites memory.old memory.new self.now.root.0 }
     {
-        let (frame, _) = leaf(ram, low, page % ENTRIES).unwrap();
-        self.clear_leaf(ram, frames, page, low);
+        let (frame, _) = leaf(&memory.ram, low, page % ENTRIES).unwrap();
+        self.clear_leaf(memory, page, low);
         frame
     }
 
     /// Gives back the root of a page table that maps nothing, which is its only table.
-    pub fn destroy(self, ram: &mut Ram, frames: &mut Frames)
-        requires paged { IsPaged ram.old self.root.0 frames.old }
-        requires empty { IsEmpty ram.old self.root.0 }
-        ensures given { free_of ram.new frames.new ≡ self.root.0 ∷ free_of ram.old frames.old }
-        ensures valid { IsFreeList ram.new frames.new }
-        ensures others { SameBut (self.root.0 ∷ []) ram.old ram.new }
-        ensures extra { extra_of frames.new ≡ extra_of frames.old }
+    pub fn destroy(self, memory: &mut Memory)
+        requires paged { IsPaged memory.old self.root.0 }
+        requires empty { IsEmpty memory.old.ram self.root.0 }
+        ensures given { free_of memory.new ≡ self.root.0 ∷ free_of memory.old }
+        ensures valid { IsFreeList memory.new }
+        ensures others { SameBut (self.root.0 ∷ []) memory.old.ram memory.new.ram }
+        ensures extra { extra_of memory.new ≡ extra_of memory.old }
     {
-        frames.give(ram, self.root);
+        memory.frames.give(&mut memory.ram, self.root);
     }
 }

@@ -79,8 +79,8 @@ shown-slot : (m : Ram) (places : Places) (at : ℕ) → slot (map (shown m) plac
 shown-slot m places at = get_or-map (shown m) places at None
 
 pub slot-is : {T : Type 0} (i : Inside T) (at : ℕ) (o : Option Space) → slot i.places.items at ≡ o
-    → slot (spaces_of i).places at ≡ shown i.ram o
-slot-is i at o e = shown-slot i.ram i.places.items at ∙ ap (shown i.ram) e
+    → slot (spaces_of i).places at ≡ shown i.memory.ram o
+slot-is i at o e = shown-slot i.memory.ram i.places.items at ∙ ap (shown i.memory.ram) e
 
 some-shown : (m : Ram) (o : Option Space) → is_some o ≡ is_some (shown m o)
 some-shown m None = refl
@@ -88,7 +88,8 @@ some-shown m (Some x) = refl
 
 -- a slot shows a space where it has one
 pub shown-there : {T : Type 0} (i : Inside T) (at : ℕ) → is_some (slot i.places.items at) ≡ has_space (spaces_of i) at
-shown-there i at = some-shown i.ram (slot i.places.items at) ∙ ap is_some (sym (shown-slot i.ram i.places.items at))
+shown-there i at = some-shown i.memory.ram (slot i.places.items at)
+    ∙ ap is_some (sym (shown-slot i.memory.ram i.places.items at))
 
 pub stands-there : {T : Type 0} (i : Inside T) (at : ℕ) → has_space (spaces_of i) at ≡ true
     → is_some (slot i.places.items at) ≡ true
@@ -101,7 +102,7 @@ missing i at has same e =
     cc
 
 pub held-is : {T : Type 0} (i : Inside T) (at : ℕ) {x : Space} → slot i.places.items at ≡ Some x
-    → view_at (spaces_of i) at ≡ view_with (pages_of i.ram x) x.size
+    → view_at (spaces_of i) at ≡ view_with (pages_of i.memory.ram x) x.size
 held-is i at {x} e = ap (λ o. unwrap_or o no_pages) (slot-is i at (Some x) e)
 
 none-shown : (m : Ram) (o : Option Space) → shown m o ≡ None → o ≡ None
@@ -109,10 +110,10 @@ none-shown m None e = refl
 none-shown m (Some x) e = absurd (cc)
 
 pub free-is : {T : Type 0} (i : Inside T) (at : ℕ) → slot (spaces_of i).places at ≡ None → slot i.places.items at ≡ None
-free-is i at e = none-shown i.ram (slot i.places.items at) (sym (shown-slot i.ram i.places.items at) ∙ e)
+free-is i at e = none-shown i.memory.ram (slot i.places.items at) (sym (shown-slot i.memory.ram i.places.items at) ∙ e)
 
 pub places-count : {T : Type 0} (i : Inside T) → length (spaces_of i).places ≡ length i.places.items
-places-count i = length-map i.places.items (shown i.ram)
+places-count i = length-map i.places.items (shown i.memory.ram)
 
 -- ---- counts
 
@@ -146,17 +147,17 @@ sum-shown m (x ∷ xs) =
 
 -- the free frames are all except those that the slots take
 pub free-taken : {T : Type 0} (held : T → Held) (i : Inside T) → IsSpaces held i
-    → free_count i.ram i.frames + taken_frames (spaces_of i) ≡ length i.ram
+    → free_count i.memory.ram i.memory.frames + taken_frames (spaces_of i) ≡ length i.memory.ram
 free-taken held i is =
     omega (
       arith,
-      free-left i.ram i.frames i.places.items (pipe_frames i.pipes.items) is.machine,
-      sum-shown i.ram i.places.items,
-      pipes-taken i.ram i.pipes.items,
+      free-left i.memory.ram i.memory.frames i.places.items (pipe_frames i.pipes.items) is.machine,
+      sum-shown i.memory.ram i.places.items,
+      pipes-taken i.memory.ram i.pipes.items,
     )
 
 pub taken-fits : {T : Type 0} (held : T → Held) (i : Inside T) → IsSpaces held i
-    → taken_frames (spaces_of i) ≤ length i.ram
+    → taken_frames (spaces_of i) ≤ length i.memory.ram
 taken-fits held i is = omega (arith, free-taken held i is)
 
 -- ---- the pages of a slot that has a space are no more than frames, as many as its size asks for, and of 4096 bytes
@@ -169,13 +170,13 @@ pub record IsWhole (memory : List Page) (size : ℕ) : Type 0 where
 
 pub are-whole : {T : Type 0} (held : T → Held) (i : Inside T) → IsSpaces held i → (at : ℕ) (o : Option Space)
     → slot i.places.items at ≡ o → is_some o ≡ true
-    → IsMemory i.ram → IsWhole (view_at (spaces_of i) at).memory (view_at (spaces_of i) at).size
+    → IsMemory i.memory.ram → IsWhole (view_at (spaces_of i) at).memory (view_at (spaces_of i) at).size
 are-whole held i is at None there has framed = absurd (cc)
 are-whole held i is at (Some x) there has framed =
     let space = is.machine.each at x there in
     rw (held-is i _ there)
     (record {
-      few = rw (length-pages_of i.ram x) space.dense.small;
-      whole = length-pages_of i.ram x;
-      sized = pages-sized i.ram x.root.0 x.trap.0 (pages_in x.size) framed space.dense;
+      few = rw (length-pages_of i.memory.ram x) space.dense.small;
+      whole = length-pages_of i.memory.ram x;
+      sized = pages-sized i.memory.ram x.root.0 x.trap.0 (pages_in x.size) framed space.dense;
     })

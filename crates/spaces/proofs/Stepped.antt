@@ -22,7 +22,7 @@ use Rattle.hart.proofs.ChangeLemmas.{IsDone, IsTrapped, follows-cases, follows-o
 use Rattle.hart.specs.Follows.{Follows}
 use Rattle.spaces.proofs.Places.{pipes-beside, held-is, slot-is}
 use Rattle.spaces.proofs.SpacesLemmas.{within, AdvancesTo, advances-more, advances-none}
-use Rattle.spaces.proofs.Traded.{reframed-showing, same-place, shown-as, shown-placed}
+use Rattle.spaces.proofs.Traded.{with_holders, reframed-showing, same-place, shown-as, shown-placed}
 use Rattle.sv39.proofs.WalkLemmas.{walk_page-inside}
 use Rattle.unixmodel.specs.declared.trap.Cause.{Cause}
 use Rattle.vm.proofs.StoreLemmas.{Stands-none, page-inside, pages-same, space-stored}
@@ -255,7 +255,7 @@ module _ (m : Ram) (x : Space) (regs : List ℕ) (pc : ℕ) (is : IsMapped m x) 
 
 -- the fields where the hart has run
 abbrev pub ran_by : {T : Type 0} → Inside T → T → Hart → Ram → Inside T
-ran_by i t h k = record i { ram = k; translator = t; hart = h }
+ran_by i t h k = record i { memory = with_holders k i.memory.frames; translator = t; hart = h }
 
 -- the hart's next cycle on a memory
 abbrev pub cycle_on : {T : Type 0} → Inside T → Memory → Effect
@@ -273,12 +273,12 @@ pub record IsRun {T : Type 0} (held : T → Held) (i : Inside T) (at : ℕ) (x :
   pub active : i.active ≡ Some at
   pub stands : slot i.places.items at ≡ Some x
   pub same : i.hart.root.0 ≡ x.root.0
-  pub coherent : IsCoherent (held i.translator) x.root.0 (entries_of i.ram x)
+  pub coherent : IsCoherent (held i.translator) x.root.0 (entries_of i.memory.ram x)
 
 pub run-of : {T : Type 0} {held : T → Held} {i : Inside T} {at : ℕ} → IsSpaces held i
     → i.active ≡ Some at → (x : Space) × IsRun held i at x
 run-of {held} {i} {at} is e =
-    let run : Runs (held i.translator) i.ram i.hart.root.0 i.places.items at = rw e at is.active in
+    let run : Runs (held i.translator) i.memory.ram i.hart.root.0 i.places.items at = rw e at is.active in
     (run.space, record { is = is; active = e; stands = run.stands; same = run.same; coherent = run.coherent })
 
 pub run-at : {T : Type 0} {held : T → Held} {i : Inside T} {at : ℕ} (x : Space) → IsSpaces held i
@@ -291,9 +291,9 @@ run-at {held} {i} {at} x is e stands =
 
 -- the spaces are intact in a memory, and the tables of the running one show what they showed
 pub record IsHere {T : Type 0} (i : Inside T) (x : Space) (m : Ram) : Type 0 where
-  pub machine : IsMachine m i.frames i.places.items (pipe_frames i.pipes.items)
-  pub entries : entries_of m x ≡ entries_of i.ram x
-  pub count : length m ≡ length i.ram
+  pub machine : IsMachine m i.memory.frames i.places.items (pipe_frames i.pipes.items)
+  pub entries : entries_of m x ≡ entries_of i.memory.ram x
+  pub count : length m ≡ length i.memory.ram
 
 -- the values where the hart is at a point
 abbrev pub spaces_at : {T : Type 0} → Inside T → Point → Spaces
@@ -307,10 +307,10 @@ spaces_at i p = record {
 }
 
 module _ {T : Type 0} {held : T → Held} {i : Inside T} {at : ℕ} {x : Space} (r : IsRun held i at x) where
-  pub here : IsHere i x i.ram
+  pub here : IsHere i x i.memory.ram
   here = record { machine = r.is.machine; entries = refl; count = refl }
 
-  module _ {m k : Ram} (here : IsHere i x m) (wrote : WritesOnly m (entries_of i.ram x) k) where
+  module _ {m k : Ram} (here : IsHere i x m) (wrote : WritesOnly m (entries_of i.memory.ram x) k) where
     stands-here : Stands m k x
     stands-here = let space =
         here.machine.each at x r.stands in stands-only m k x space.dense space.once (rw here.entries wrote)
@@ -321,15 +321,15 @@ module _ {T : Type 0} {held : T → Held} {i : Inside T} {at : ℕ} {x : Space} 
         let s = stands-here in
         record {
           machine = rw (same-place i.places.items at x r.stands)
-              (trade-machine m k i.frames i.frames i.places.items (pipe_frames i.pipes.items)
-              at (Some x) here.machine (within i.places.items at x r.stands) (s.space i.frames space)
-              (rw r.stands (s.trades i.frames space)));
+              (trade-machine m k i.memory.frames i.memory.frames i.places.items (pipe_frames i.pipes.items)
+              at (Some x) here.machine (within i.places.items at x r.stands) (s.space i.memory.frames space)
+              (rw r.stands (s.trades i.memory.frames space)));
           entries = s.entries ∙ here.entries;
           count = s.count ∙ here.count;
         }
 
   -- an instruction that the hart does by what the walk lets through
-  point-does : (old new : Point) → IsHere i x old.ram → DoesOne (entries_of i.ram x) old new
+  point-does : (old new : Point) → IsHere i x old.ram → DoesOne (entries_of i.memory.ram x) old new
       → Does (spaces_at i old) at (spaces_at i new)
   point-does old new here one =
       let m = old.ram in
@@ -346,10 +346,10 @@ module _ {T : Type 0} {held : T → Held} {i : Inside T} {at : ℕ} {x : Space} 
       ∙ memory_of-cycle m (mapping_of m x) old.registers old.pc d (sound right_marks m x space.dense space.once)
       by_right in
       let others : OthersUntouched m k i.places.items at =
-      trade-others m k i.frames i.frames i.places.items (pipe_frames i.pipes.items) (holds k x)
-      at here.machine (rw r.stands (s.trades i.frames space)) in
-      let pipes = pipes-beside m k i.frames i.frames i.places.items i.pipes.items (holds k x)
-      at here.machine (rw r.stands (s.trades i.frames space)) in
+      trade-others m k i.memory.frames i.memory.frames i.places.items (pipe_frames i.pipes.items) (holds k x)
+      at here.machine (rw r.stands (s.trades i.memory.frames space)) in
+      let pipes = pipes-beside m k i.memory.frames i.memory.frames i.places.items i.pipes.items (holds k x)
+      at here.machine (rw r.stands (s.trades i.memory.frames space)) in
       let places : map (shown k) i.places.items
       ≡ slice_set (map (shown m) i.places.items)
       at (Some (view_with (memory_after (pages_of m x) d.change) x.size)) =
@@ -358,14 +358,15 @@ module _ {T : Type 0} {held : T → Held} {i : Inside T} {at : ℕ} {x : Space} 
       ∙ ap (slice_set (map (shown m) i.places.items) at)
       (shown-as k x (memory_after (pages_of m x) d.change) x.size after refl) in
       let seen : view_at (spaces_at i old) at ≡ view_with (pages_of m x) x.size =
-      held-is (record i { ram = m }) _ r.stands in
+      held-is (record i { memory = with_holders m i.memory.frames }) _ r.stands in
       let registers : new.registers ≡ d.regs = ap (λ (p : Point). p.registers) one.leaves in
       let pc : new.pc ≡ d.pc = ap (λ (p : Point). p.pc) one.leaves in
       record { done = d; means = rw seen by_right; leaves = rw (seen, registers, pc, places, pipes, s.count) refl }
 
   -- the fields where the hart has run, and writes have left this memory
   sound-run : (t : T) (h : Hart) (k : Ram) → IsHere i x k → h.root ≡ i.hart.root
-      → IsCoherent (held t) x.root.0 (entries_of i.ram x) → HoldsInside (held t) k → IsSpaces held (ran_by i t h k)
+      → IsCoherent (held t) x.root.0 (entries_of i.memory.ram x) → HoldsInside (held t) k
+      → IsSpaces held (ran_by i t h k)
   sound-run t h k here root coherent inside =
       let now : Runs (held t) k h.root.0 i.places.items at =
       record {
@@ -395,25 +396,25 @@ kept-inside old new m k root same inside kept t holds = elim (kept t holds) [
 -- what a step of the hart did
 pub record Steps {T : Type 0} (held : T → Held) (i : Inside T) (t : T) (h : Hart) (k : Ram) (result : Option Trap)
     : Type 0 where
-  pub memory : IsMemory i.ram
-  pub small : length i.ram ≤ 32768
-  pub step : (mapping : List Mapped) → Shows (held i.translator) i.ram i.hart.root.0 mapping
-      → Follows (cycle_on i (memory_of i.ram mapping)) mapping result i.hart h i.ram k
-  pub kept : IsKept (held i.translator) (held t) i.ram i.hart.root.0
-  pub count : length k ≡ length i.ram
+  pub memory : IsMemory i.memory.ram
+  pub small : length i.memory.ram ≤ 32768
+  pub step : (mapping : List Mapped) → Shows (held i.translator) i.memory.ram i.hart.root.0 mapping
+      → Follows (cycle_on i (memory_of i.memory.ram mapping)) mapping result i.hart h i.memory.ram k
+  pub kept : IsKept (held i.translator) (held t) i.memory.ram i.hart.root.0
+  pub count : length k ≡ length i.memory.ram
 
 -- a trap leaves the memory and the hart
 record Trapped {T : Type 0} (i : Inside T) (h : Hart) (k : Ram) (c : Trap) (x : Space) : Type 0 where
-  low : cycle_on i (let_through i.ram x) ≡ Err c
+  low : cycle_on i (let_through i.memory.ram x) ≡ Err c
   pub hart : h ≡ i.hart
-  pub memory : k ≡ i.ram
+  pub memory : k ≡ i.memory.ram
 
 -- the fields once a page was opened and the translator fenced
 pub record Reopened {T : Type 0} (held : T → Held) (i j : Inside T) (at : ℕ) (x : Space) : Type 0 where
   pub run : IsRun held j at x
   pub view : spaces_of j ≡ spaces_of i
   pub hart : j.hart ≡ i.hart
-  pub pages : pages_of j.ram x ≡ pages_of i.ram x
+  pub pages : pages_of j.memory.ram x ≡ pages_of i.memory.ram x
 
 same-value : (v : Spaces) (at : ℕ) (y : Option SpaceView) → slot v.places at ≡ y → with_place v at y ≡ v
 same-value v at y e = ap (λ (l : List (Option SpaceView)). record v { places = l })
@@ -425,22 +426,24 @@ for-active P e p = rw e p
 
 module _ {T : Type 0} {held : T → Held} {i : Inside T} {t : T} {h : Hart} {k : Ram} {result : Option Trap} {at : ℕ}
     {x : Space} (r : IsRun held i at x) (s : Steps held i t h k result) where
-  walks : WalksTo i.ram x.root.0 (entries_of i.ram x)
-  walks = walks-entries i.ram x.root.0 x.trap.0 (pages_in x.size) s.small (r.is.machine.each at x r.stands).dense
+  walks : WalksTo i.memory.ram x.root.0 (entries_of i.memory.ram x)
+  walks = walks-entries i.memory.ram x.root.0 x.trap.0 (pages_in x.size) s.small (r.is.machine.each at x r.stands).dense
 
-  follows : Follows (cycle_on i (let_through i.ram x)) (entries_of i.ram x) result i.hart h i.ram k
-  follows = s.step (entries_of i.ram x)
-      (rw r.same (shows-coherent (held i.translator) i.ram x.root.0 (entries_of i.ram x) walks r.coherent))
+  follows : Follows (cycle_on i (let_through i.memory.ram x)) (entries_of i.memory.ram x) result i.hart h i.memory.ram k
+  follows = s.step (entries_of i.memory.ram x)
+      (rw r.same (shows-coherent (held i.translator) i.memory.ram x.root.0 (entries_of i.memory.ram x) walks
+      r.coherent))
 
-  came : IsDone (cycle_on i (let_through i.ram x)) (entries_of i.ram x) result i.hart h i.ram k
-      ⊎ IsTrapped (cycle_on i (let_through i.ram x)) result i.hart h i.ram k
-  came = follows-cases (cycle_on i (let_through i.ram x)) (entries_of i.ram x) result i.hart h i.ram k follows
+  came : IsDone (cycle_on i (let_through i.memory.ram x)) (entries_of i.memory.ram x) result i.hart h i.memory.ram k
+      ⊎ IsTrapped (cycle_on i (let_through i.memory.ram x)) result i.hart h i.memory.ram k
+  came = follows-cases (cycle_on i (let_through i.memory.ram x)) (entries_of i.memory.ram x) result i.hart h
+      i.memory.ram k follows
 
-  wrote : WritesOnly i.ram (entries_of i.ram x) k
+  wrote : WritesOnly i.memory.ram (entries_of i.memory.ram x) k
   wrote =
       let space = r.is.machine.each at x r.stands in
-      follows-only i.hart.registers i.hart.pc (entries_of i.ram x) result i.hart h i.ram k s.memory
-      (sound entry_marks i.ram x space.dense space.once) follows
+      follows-only i.hart.registers i.hart.pc (entries_of i.memory.ram x) result i.hart h i.memory.ram k s.memory
+      (sound entry_marks i.memory.ram x space.dense space.once) follows
 
   same-root : h.root ≡ i.hart.root
   same-root = elim came [ inl done ↦ done.root | inr trapped ↦ ap (λ (x : Hart). x.root) trapped.hart ]
@@ -448,23 +451,24 @@ module _ {T : Type 0} {held : T → Held} {i : Inside T} {t : T} {h : Hart} {k :
   -- it leaves the fields sound
   pub sound-stepped : IsSpaces held (ran_by i t h k)
   sound-stepped =
-      let kept : IsKept (held i.translator) (held t) i.ram x.root.0 = rw r.same at s.kept in
+      let kept : IsKept (held i.translator) (held t) i.memory.ram x.root.0 = rw r.same at s.kept in
       sound-run r t h k (here-more r (here r) wrote) same-root
-      (coherent-kept (held i.translator) (held t) i.ram x.root.0 (entries_of i.ram x) walks r.coherent kept)
-      (kept-inside (held i.translator) (held t) i.ram k i.hart.root.0 s.count r.is.inside s.kept)
+      (coherent-kept (held i.translator) (held t) i.memory.ram x.root.0 (entries_of i.memory.ram x) walks r.coherent
+      kept)
+      (kept-inside (held i.translator) (held t) i.memory.ram k i.hart.root.0 s.count r.is.inside s.kept)
 
   -- an instruction was done
   pub step-done : result ≡ None → IfSome i.active (Executes (spaces_of i) (spaces_of (ran_by i t h k)))
   step-done none = elim came [
     | inl done ↦
-        let one : DoesOne (entries_of i.ram x) (point_of i.hart i.ram) (point_of h k) =
+        let one : DoesOne (entries_of i.memory.ram x) (point_of i.hart i.memory.ram) (point_of h k) =
         record {
           done = done.done;
           means = done.is;
           leaves = rw (done.registers, done.pc, done.memory) refl;
           writes = wrote;
         } in
-        let does = point-does r (point_of i.hart i.ram) (point_of h k) (here r) one in
+        let does = point-does r (point_of i.hart i.memory.ram) (point_of h k) (here r) one in
         for-active (Executes (spaces_of i) (spaces_of (ran_by i t h k))) r.active (does.done, does.means, does.leaves)
     | inr trapped ↦ absurd (let bad = sym none ∙ trapped.result_is in cc)
   ]
@@ -479,7 +483,7 @@ module _ {T : Type 0} {held : T → Held} {i : Inside T} {t : T} {h : Hart} {k :
   ]
 
   -- or a trap was raised, which is one by right, too
-  trap-at : (c : Trap) → result ≡ Some c → cycle_on i (pages_of i.ram x) ≡ Err c
+  trap-at : (c : Trap) → result ≡ Some c → cycle_on i (pages_of i.memory.ram x) ≡ Err c
       → Stopped i.active (spaces_of i) (spaces_of (ran_by i t h k)) c
   trap-at c e right =
       let left = trapped c e in
@@ -493,49 +497,50 @@ module _ {T : Type 0} {held : T → Held} {i : Inside T} {t : T} {h : Hart} {k :
   step-trap c e closed =
       let left = trapped c e in
       let none : c.cause ≡ StorePageFault
-      → page_for Store (pages_of i.ram x) c.address ≡ None =
+      → page_for Store (pages_of i.memory.ram x) c.address ≡ None =
       subst (λ (m : Ram). c.cause ≡ StorePageFault → page_for Store (pages_of m x) c.address ≡ None)
       left.memory closed in
-      trap-at c e (trap-right i.ram x i.hart.registers i.hart.pc (r.is.machine.each at x r.stands).dense c left.low
+      trap-at c e (trap-right i.memory.ram x i.hart.registers i.hart.pc (r.is.machine.each at x r.stands).dense c
+      left.low
       none)
 
   -- so the space is intact
-  pub trap-space : (c : Trap) → result ≡ Some c → IsSpace k x i.frames
-  trap-space c e = subst (λ (m : Ram). IsSpace m x i.frames) (sym (trapped c e).memory)
+  pub trap-space : (c : Trap) → result ≡ Some c → IsSpace k x i.memory.frames
+  trap-space c e = subst (λ (m : Ram). IsSpace m x i.memory.frames) (sym (trapped c e).memory)
       (r.is.machine.each at x r.stands)
 
-  pub reopened : (u : T) (l : Ram) (n : Frames) (c : Trap) → result ≡ Some c → IsRearranged k l x i.frames n
-      → HoldsNothing (held u) → Reopened held i (record i { ram = l; frames = n; translator = u; hart = h }) at x
+  pub reopened : (u : T) (l : Ram) (n : Frames) (c : Trap) → result ≡ Some c → IsRearranged k l x i.memory.frames n
+      → HoldsNothing (held u) → Reopened held i (record i { memory = with_holders l n; translator = u; hart = h }) at x
   reopened u l n c e re fenced =
       let left = trapped c e in
-      let arranged : IsRearranged i.ram l x i.frames n =
-      subst (λ (m : Ram). IsRearranged m l x i.frames n) left.memory re in
+      let arranged : IsRearranged i.memory.ram l x i.memory.frames n =
+      subst (λ (m : Ram). IsRearranged m l x i.memory.frames n) left.memory re in
       let placed = reframed-showing r.is
-      at x l n u (pages_of i.ram x) r.stands arranged.frames (λ v has. absurd (fenced v has)) (λ a. fenced)
+      at x l n u (pages_of i.memory.ram x) r.stands arranged.frames (λ v has. absurd (fenced v has)) (λ a. fenced)
       arranged.pages in
       rw left.hart (record {
         run = run-at x placed.sound r.active r.stands;
         view = placed.view ∙ same-value (spaces_of i)
-            at (Some (view_with (pages_of i.ram x) x.size)) (slot-is i at (Some x) r.stands);
+            at (Some (view_with (pages_of i.memory.ram x) x.size)) (slot-is i at (Some x) r.stands);
         hart = refl;
         pages = arranged.pages;
       })
 
   -- a store that faulted is done again, once its page was opened
   same-again : (m : Ram) (c : Trap) (g : Perm) → result ≡ Some c → c.cause ≡ StorePageFault → IsMapped m x
-      → pages_of m x ≡ pages_of i.ram x → marks_at m x.root.0 (c.address / 4096) ≡ user_leaf g true
+      → pages_of m x ≡ pages_of i.memory.ram x → marks_at m x.root.0 (c.address / 4096) ≡ user_leaf g true
       → cycle_on i (let_through m x) ≡ cycle_on i (pages_of m x)
   same-again m c g e store mapped pages made =
-      let down = narrows i.ram x (r.is.machine.each at x r.stands).dense in
+      let down = narrows i.memory.ram x (r.is.machine.each at x r.stands).dense in
       let fault = (trapped c e).low ∙ ap (λ (u : Cause). trap u c.address) store in
-      cycle-again i.hart.registers i.hart.pc c.address (let_through i.ram x) (let_through m x) (pages_of m x)
-      (subst (Narrows (let_through i.ram x)) (sym pages) down) (narrows m x mapped)
+      cycle-again i.hart.registers i.hart.pc c.address (let_through i.memory.ram x) (let_through m x) (pages_of m x)
+      (subst (Narrows (let_through i.memory.ram x)) (sym pages) down) (narrows m x mapped)
       (opened-alike m x.root.0 (pages_in x.size) c.address g made) fault
 
 -- either of the two
 outcome : {T : Type 0} {held : T → Held} {i : Inside T} {t : T} {h : Hart} {k : Ram} {at : ℕ} {x : Space}
     (result : Option Trap) → IsRun held i at x → Steps held i t h k result
-    → cycle_on i (let_through i.ram x) ≡ cycle_on i (pages_of i.ram x)
+    → cycle_on i (let_through i.memory.ram x) ≡ cycle_on i (pages_of i.memory.ram x)
     → Comes i.active (spaces_of i) (spaces_of (ran_by i t h k)) result
 outcome None r s right = (step-done r s refl, tt)
 outcome (Some c) r s right = (tt, trap-at r s c refl (sym right ∙ (trapped r s c refl).low))
@@ -544,24 +549,26 @@ outcome (Some c) r s right = (tt, trap-at r s c refl (sym right ∙ (trapped r s
 pub second : {T : Type 0} {held : T → Held} {i j : Inside T} {t u : T} {h o : Hart} {k l : Ram}
     {result again : Option Trap} {at : ℕ} {x : Space} (c : Trap) (g : Perm) → IsRun held i at x
     → Steps held i t h k result → result ≡ Some c → c.cause ≡ StorePageFault
-    → Reopened held i j at x → marks_at j.ram x.root.0 (c.address / 4096) ≡ user_leaf g true → Steps held j u o l again
+    → Reopened held i j at x → marks_at j.memory.ram x.root.0 (c.address / 4096) ≡ user_leaf g true
+    → Steps held j u o l again
     → Comes j.active (spaces_of i) (spaces_of (ran_by j u o l)) again
 second {j} {u} {o} {l} {again} {at} {x} c g r s e store re made next =
-    let right = same-again r s j.ram c g e store (re.run.is.machine.each at x re.run.stands).dense re.pages made in
+    let right = same-again r s j.memory.ram c g e store (re.run.is.machine.each at x re.run.stands).dense re.pages made
+    in
     subst (λ (v : Spaces). Comes j.active v (spaces_of (ran_by j u o l)) again) re.view
     (outcome again re.run next (rw re.hart right))
 
 -- ---- instructions of the process of a slot, as the hart ran them
 
 module _ {T : Type 0} {held : T → Held} {i : Inside T} {at : ℕ} {x : Space} (r : IsRun held i at x) where
-  here-reached : (n : ℕ) (m : Ram) → Reaches n (entries_of i.ram x) i.ram m → IsHere i x m
+  here-reached : (n : ℕ) (m : Ram) → Reaches n (entries_of i.memory.ram x) i.memory.ram m → IsHere i x m
   unfolding Reaches
   here-reached zero m same = rw same (here r)
   here-reached (suc n) m (mid, reaches, wrote) = here-more r (here-reached n mid reaches) wrote
 
   -- many instructions, one after the other
   ran : (stops : List ℕ) (n : ℕ) (first new : Point) → IsHere i x first.ram
-      → RunsTo stops n (entries_of i.ram x) first new
+      → RunsTo stops n (entries_of i.memory.ram x) first new
       → Advances stops n (spaces_at i first) at (spaces_at i new) × IsHere i x new.ram
   unfolding RunsTo
   ran stops zero first new here same = rw same (advances-none stops (spaces_at i first) at, here)
@@ -572,21 +579,21 @@ module _ {T : Type 0} {held : T → Held} {i : Inside T} {at : ℕ} {x : Space} 
         here-more r before.1 one.writes,
       )
 
-  begun : {stops : List ℕ} → length i.ram ≤ 32768
-      → Goes (held i.translator) i.hart.root.0 (entries_of i.ram x) stops 0 (point_of i.hart i.ram)
-      (point_of i.hart i.ram)
+  begun : {stops : List ℕ} → length i.memory.ram ≤ 32768
+      → Goes (held i.translator) i.hart.root.0 (entries_of i.memory.ram x) stops 0 (point_of i.hart i.memory.ram)
+      (point_of i.hart i.memory.ram)
   unfolding RunsTo Reaches
   begun small =
       let space = r.is.machine.each at x r.stands in
-      let walks : (n : ℕ) (m : Ram) → Reaches n (entries_of i.ram x) i.ram m
-      → WalksTo m i.hart.root.0 (entries_of i.ram x) =
+      let walks : (n : ℕ) (m : Ram) → Reaches n (entries_of i.memory.ram x) i.memory.ram m
+      → WalksTo m i.hart.root.0 (entries_of i.memory.ram x) =
       λ n m reaches. (
       let now = here-reached n m reaches in
       rw (r.same, ← now.entries)
       (walks-entries m x.root.0 x.trap.0 (pages_in x.size) (rw now.count small)
       (now.machine.each at x r.stands).dense)) in
       record {
-        steady = record { sound = sound entry_marks i.ram x space.dense space.once; walks = walks };
+        steady = record { sound = sound entry_marks i.memory.ram x space.dense space.once; walks = walks };
         coherent = rw r.same r.coherent;
         runs = refl;
         reaches = refl;
@@ -596,22 +603,24 @@ module _ {T : Type 0} {held : T → Held} {i : Inside T} {at : ℕ} {x : Space} 
 -- what a run of the hart did
 pub record RanOn {T : Type 0} (held : T → Held) (i : Inside T) (t : T) (h : Hart) (k : Ram) (stops : List ℕ) (done : ℕ)
     (stopped : Option Trap) : Type 0 where
-  pub small : length i.ram ≤ 32768
+  pub small : length i.memory.ram ≤ 32768
   pub goes : (mapping : List Mapped)
-      → GoesOn (held i.translator) (held t) i.hart.root.0 mapping stops (point_of i.hart i.ram) (point_of h k) done
+      → GoesOn (held i.translator) (held t) i.hart.root.0 mapping stops (point_of i.hart i.memory.ram) (point_of h k)
+      done
       stopped
-  pub whole : StaysWhole (held t) i.hart h i.ram k
+  pub whole : StaysWhole (held t) i.hart h i.memory.ram k
 
 module _ {T : Type 0} {held : T → Held} {i : Inside T} {t : T} {h : Hart} {k : Ram} {stops : List ℕ} {done : ℕ}
     {at : ℕ} {x : Space} (r : IsRun held i at x) where
   went-on : (stopped : Option Trap) → RanOn held i t h k stops done stopped
-      → Goes (held t) i.hart.root.0 (entries_of i.ram x) stops done (point_of i.hart i.ram) (point_of h k)
-      × IfSome stopped (λ c. cycle h.registers h.pc (memory_of k (entries_of i.ram x)) ≡ Err c)
+      → Goes (held t) i.hart.root.0 (entries_of i.memory.ram x) stops done (point_of i.hart i.memory.ram) (point_of h k)
+      × IfSome stopped (λ c. cycle h.registers h.pc (memory_of k (entries_of i.memory.ram x)) ≡ Err c)
   went-on stopped o =
       let none : 0 + done ≡ done = omega arith in
-      let all = o.goes (entries_of i.ram x) 0 (point_of i.hart i.ram) (λ more. absurd (omega (arith, more)))
+      let all = o.goes (entries_of i.memory.ram x) 0 (point_of i.hart i.memory.ram)
+      (λ more. absurd (omega (arith, more)))
       (begun r o.small) in (
-        subst (λ (n : ℕ). Goes (held t) i.hart.root.0 (entries_of i.ram x) stops n (point_of i.hart i.ram)
+        subst (λ (n : ℕ). Goes (held t) i.hart.root.0 (entries_of i.memory.ram x) stops n (point_of i.hart i.memory.ram)
             (point_of h k)) none all.0,
         all.1,
       )
@@ -621,9 +630,9 @@ module _ {T : Type 0} {held : T → Held} {i : Inside T} {t : T} {h : Hart} {k :
       → IsSpaces held (ran_by i t h k) × Advances stops done (spaces_of i) at (spaces_of (ran_by i t h k))
   ran-at stopped o =
       let went = (went-on stopped o).0 in
-      let all = ran r stops done (point_of i.hart i.ram) (point_of h k) (here r) went.runs in (
+      let all = ran r stops done (point_of i.hart i.memory.ram) (point_of h k) (here r) went.runs in (
         sound-run r t h k all.1 o.whole.root
-            (subst (λ n. IsCoherent (held t) n (entries_of i.ram x)) r.same went.coherent) o.whole.inside,
+            (subst (λ n. IsCoherent (held t) n (entries_of i.memory.ram x)) r.same went.coherent) o.whole.inside,
         all.0,
       )
 
@@ -632,7 +641,7 @@ module _ {T : Type 0} {held : T → Held} {i : Inside T} {t : T} {h : Hart} {k :
       → cycle h.registers h.pc (view_at (spaces_of (ran_by i t h k)) at).memory ≡ Err c
   stops-right c o other =
       let all = went-on (Some c) o in
-      let now = (ran r stops done (point_of i.hart i.ram) (point_of h k) (here r) all.0.runs).1 in
+      let now = (ran r stops done (point_of i.hart i.memory.ram) (point_of h k) (here r) all.0.runs).1 in
       let low : cycle h.registers h.pc (let_through k x) ≡ Err c = rw now.entries all.1 in
       let seen : view_at (spaces_of (ran_by i t h k)) at ≡ view_with (pages_of k x) x.size =
       held-is (ran_by i t h k) _ r.stands in

@@ -41,12 +41,12 @@ pipe_frames pipes = flat_map frames_at pipes
 
 abbrev pub spaces_of : {T : Type 0} → Inside T → Spaces
 spaces_of k = record {
-  places = map (shown k.ram) k.places.items;
+  places = map (shown k.memory.ram) k.places.items;
   active = k.active;
   registers = k.hart.registers;
   pc = k.hart.pc;
-  frames = length k.ram;
-  pipes = map (pipe_shown k.ram) k.pipes.items;
+  frames = length k.memory.ram;
+  pipes = map (pipe_shown k.memory.ram) k.pipes.items;
 }
 
 -- addresses from a root go through the space of a slot, and what is held is what the tables of that space show
@@ -63,10 +63,10 @@ IsActive held m root places (Some at) = Runs held m root places at
 
 -- The spaces, the pipes and the free list share out all frames, and the hart runs the active slot.
 pub record IsSpaces {T : Type 0} (held : T → translation.Held) (k : Inside T) : Type 0 where
-  pub machine : IsMachine k.ram k.frames k.places.items (pipe_frames k.pipes.items)
+  pub machine : IsMachine k.memory.ram k.memory.frames k.places.items (pipe_frames k.pipes.items)
   pub all : length k.places.items ≡ 64
-  pub active : IsActive (held k.translator) k.ram k.hart.root.0 k.places.items k.active
-  pub inside : HoldsInside (held k.translator) k.ram
+  pub active : IsActive (held k.translator) k.memory.ram k.hart.root.0 k.places.items k.active
+  pub inside : HoldsInside (held k.translator) k.memory.ram
   pub pipes : length k.pipes.items ≡ 100
   pub both : (q : ℕ) (p : Pipe) → slot k.pipes.items q ≡ Some p → IsOpen p
 

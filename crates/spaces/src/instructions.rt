@@ -46,9 +46,9 @@ impl<T: Translate> Spaces<T> {
         ensures trap { IfSome result.1 (λ t. (t.cause ≡ StorePageFault → ⊥) →
             IfSome self.old.active (λ at. cycle self.new.registers self.new.pc (view_at self.new at).memory ≡ Err t)) }
     {
-        self.ram.frames_are_whole();
+        self.memory.ram.frames_are_whole();
         self.hart.run(
-            &mut self.ram,
+            &mut self.memory.ram,
             &mut self.translator,
             &mut self.decoded,
             count,

@@ -46,7 +46,7 @@ ghost use Rattle.vm.specs.Space.{IsMapped, pages_in, pages_of};
 mod instructions;
 
 use arrayvec::ArrayVec;
-use frames::Frames;
+use frames::Memory;
 use hart::{Decoded, Hart};
 use pipe::Pipe;
 use ram::{FRAME_SIZE, FrameNo, NoMemory, Ram};
@@ -67,8 +67,7 @@ const FREE: Option<Space> = None;
 /// The address spaces of a machine and its hart.
 #[derive(Drop)]
 pub struct Spaces<T: Translate> {
-    ram: Ram,
-    frames: Frames,
+    memory: Memory,
     translator: T,
     places: ArrayVec<Option<Space>, 64>,
     hart: Hart,
@@ -247,14 +246,12 @@ impl<T: Translate> Spaces<T> {
     pub fn new(alloc: Global, ram: Ram, translator: T) -> Result<Spaces<T>, NoMemory>
         ensures { IfOk result (λ s. s ≡ no_spaces (length ram)) }
     {
-        let mut ram = ram;
         let mut translator = translator;
         translator.fence();
-        let frames = Frames::new(alloc, &mut ram)?;
+        let memory = Memory::new(alloc, ram)?;
         let decoded = nothing_decoded(alloc)?;
         Ok(Spaces {
-            ram,
-            frames,
+            memory,
             translator,
             places: ArrayVec::from_array_in((), [FREE; PROCESSES]),
             hart: Hart {
@@ -280,14 +277,12 @@ impl<T: Translate> Spaces<T> {
     ) -> Result<Spaces<U>, NoMemory>
         ensures { IfOk result (λ s. s ≡ self.now) }
     {
-        let ram = self.ram.duplicate(alloc)?;
-        let frames = self.frames.duplicate(alloc)?;
+        let memory = self.memory.duplicate(alloc)?;
         let decoded = nothing_decoded(alloc)?;
         let mut fenced = translator;
         fenced.fence();
         Ok(Spaces {
-            ram,
-            frames,
+            memory,
             translator: fenced,
             places: duplicate_places(&self.places),
             hart: self.hart.duplicate(),
@@ -303,8 +298,7 @@ impl<T: Translate> Spaces<T> {
         requires { self.old.frames ≡ source.now.frames }
         ensures { self.new ≡ source.now }
     {
-        self.ram.copy_from(&source.ram);
-        self.frames.copy_from(&source.frames);
+        self.memory.copy_from(&source.memory);
         let translator = &mut self.translator;
         translator.fence();
         self.places = duplicate_places(&source.places);
@@ -317,14 +311,14 @@ impl<T: Translate> Spaces<T> {
     pub fn frame_count(&self) -> u32
         ensures { result ≡ self.now.frames }
     {
-        self.ram.frame_count()
+        self.memory.ram.frame_count()
     }
 
     /// How many frames are free.
     pub fn free(&self) -> u32
         ensures { result + taken_frames self.now ≡ self.now.frames }
     {
-        self.frames.free()
+        self.memory.frames.free()
     }
 
     /// A law: no more frames are taken than there are. It runs no code.
@@ -332,7 +326,7 @@ impl<T: Translate> Spaces<T> {
     pub fn frames_suffice(&self)
         ensures { taken_frames self.now ≤ self.now.frames }
     {
-        let _frames = &self.frames;
+        let _memory = &self.memory;
     }
 
     /// The active slot, which has a space.
@@ -379,7 +373,7 @@ impl<T: Translate> Spaces<T> {
         ensures whole { length (view_at self.now at).memory ≡ ceil_div (view_at self.now at).size 4096 }
         ensures sized { IsSized (view_at self.now at).memory }
     {
-        self.ram.frames_are_whole();
+        self.memory.ram.frames_are_whole();
     }
 
     /// Whether the program of a slot may read `count` bytes from `address` on.
@@ -390,7 +384,7 @@ impl<T: Translate> Spaces<T> {
         ensures read { result ≡ is_some (read_bytes (view_at self.now at).memory address count) }
     {
         let space = space_at(&self.places, at);
-        space.can_read(&self.ram, address, count)
+        space.can_read(&self.memory.ram, address, count)
     }
 
     /// Whether the program of a slot may write `count` bytes from `address` on.
@@ -400,7 +394,7 @@ impl<T: Translate> Spaces<T> {
         ensures { result ≡ can_write (view_at self.now at).memory address count }
     {
         let space = space_at(&self.places, at);
-        space.can_write(&self.ram, address, count)
+        space.can_write(&self.memory.ram, address, count)
     }
 
     /// The bytes from an address of a slot to the end of its page; none where its program may not read them.
@@ -409,7 +403,7 @@ impl<T: Translate> Spaces<T> {
         ensures { result.now ≡ piece_at Load (view_at self.now at).memory address }
     {
         let space = space_at(&self.places, at);
-        space.readable(&self.ram, address)
+        space.readable(&self.memory.ram, address)
     }
 
     /// The bytes and the marks of a page of a slot; `None` past the last one.
@@ -418,8 +412,8 @@ impl<T: Translate> Spaces<T> {
         ensures { option_map page_from result ≡ option_map told_page (slice_get (view_at self.now at).memory n) }
     {
         let space = space_at(&self.places, at);
-        let (frame, marks) = space.find_page(&self.ram, n)?;
-        Some((self.ram.frame(frame), marks.perm))
+        let (frame, marks) = space.find_page(&self.memory.ram, n)?;
+        Some((self.memory.ram.frame(frame), marks.perm))
     }
 
     /// The bytes and the marks of a page of a slot, with whether a fork had it; `None` past the last one.
@@ -428,7 +422,7 @@ impl<T: Translate> Spaces<T> {
         ensures { option_map kept_from result ≡ slice_get (view_at self.now at).memory n }
     {
         let space = space_at(&self.places, at);
-        let ram = &self.ram;
+        let ram = &self.memory.ram;
         let (frame, marks) = space.find_page(ram, n)?;
         Some((ram.frame(frame), marks))
     }
@@ -439,7 +433,7 @@ impl<T: Translate> Spaces<T> {
         ensures { ShowsMemory result.0.now result.1.0 (view_at self.now at).memory }
     {
         let space = space_at(&self.places, at);
-        (&self.ram, root_of(space, &self.ram))
+        (&self.memory.ram, root_of(space, &self.memory.ram))
     }
 
     /// Makes a space without pages in a free slot. `false`: fewer than 4 frames are free; then nothing changed.
@@ -449,7 +443,7 @@ impl<T: Translate> Spaces<T> {
         ensures done { OnTrue result (Fits self.old self.new (with_view self.old at no_pages)) }
         ensures refused { OnFalse result (Lacks self.old self.new (with_view self.old at no_pages)) }
     {
-        match Space::new(&mut self.ram, &mut self.frames) {
+        match Space::new(&mut self.memory) {
             Ok(space) => {
                 self.places[at] = Some(space);
                 true
@@ -471,7 +465,7 @@ impl<T: Translate> Spaces<T> {
         ensures refused { OnFalse result (Lacks self.old self.new (copied self.old from to)) }
     {
         let space = space_at(&self.places, from);
-        match space.copy(&mut self.ram, &mut self.frames) {
+        match space.copy(&mut self.memory) {
             Ok(space) => {
                 self.places[to] = Some(space);
                 fence_active(&mut self.translator, self.active, from);
@@ -488,7 +482,7 @@ impl<T: Translate> Spaces<T> {
         ensures { self.new ≡ with_place self.old at None }
     {
         let space = self.places[at].take().unwrap();
-        space.destroy(&mut self.ram, &mut self.frames);
+        space.destroy(&mut self.memory);
     }
 
     /// Adds `bytes` bytes to a slot's space: new pages are 0 and have these marks. `false`: the frames don't
@@ -501,11 +495,9 @@ impl<T: Translate> Spaces<T> {
         ensures done { OnTrue result (Fits self.old self.new (grown_at self.old at bytes (marks_from perm))) }
         ensures refused { OnFalse result (Lacks self.old self.new (grown_at self.old at bytes (marks_from perm))) }
     {
-        self.ram.frames_are_whole();
+        self.memory.ram.frames_are_whole();
         let space = self.places[at].as_mut().unwrap();
-        space
-            .grow(&mut self.ram, &mut self.frames, bytes, perm)
-            .is_ok()
+        space.grow(&mut self.memory, bytes, perm).is_ok()
     }
 
     /// Takes the last `bytes` bytes from a slot's space, and the pages that no byte needs then.
@@ -515,7 +507,7 @@ impl<T: Translate> Spaces<T> {
         ensures { self.new ≡ with_view self.old at (shrunk (view_at self.old at) bytes) }
     {
         let space = self.places[at].as_mut().unwrap();
-        space.shrink(&mut self.ram, &mut self.frames, bytes);
+        space.shrink(&mut self.memory, bytes);
         fence_active(&mut self.translator, self.active, at);
     }
 
@@ -541,7 +533,7 @@ impl<T: Translate> Spaces<T> {
         ensures refused { OnFalse result (self.new ≡ self.old) }
     {
         let space = space_at(&self.places, at);
-        space.store(&mut self.ram, address, bytes)
+        space.store(&mut self.memory.ram, address, bytes)
     }
 
     // The same for any bytes: pages may get other frames. It is out of line, as it is seldom done.
@@ -552,7 +544,7 @@ impl<T: Translate> Spaces<T> {
         ensures { self.new ≡ with_view self.old at (written (view_at self.old at) address bytes.now) }
     {
         let space = space_at(&self.places, at);
-        space.fill(&mut self.ram, &mut self.frames, address, bytes);
+        space.fill(&mut self.memory, address, bytes);
         fence_active(&mut self.translator, self.active, at);
     }
 
@@ -581,7 +573,7 @@ impl<T: Translate> Spaces<T> {
         ensures refused { OnFalse result (buffer.new ≡ buffer.old) }
     {
         let space = space_at(&self.places, at);
-        space.copy_in(&self.ram, address, buffer).is_ok()
+        space.copy_in(&self.memory.ram, address, buffer).is_ok()
     }
 
     /// Copies the string at an address of a slot into a buffer, and returns its length: the bytes before the first 0,
@@ -595,7 +587,7 @@ impl<T: Translate> Spaces<T> {
         ensures bytes { IfSome result (λ n. All (λ b. b ≢ 0) (take n buffer.new)) }
     {
         let space = space_at(&self.places, at);
-        space.copy_string(&self.ram, address, buffer)
+        space.copy_string(&self.memory.ram, address, buffer)
     }
 
     /// Copies the path at an address of a slot into a buffer, and returns its length: it is a string of at most 127
@@ -679,22 +671,22 @@ impl<T: Translate> Spaces<T> {
         ensures done { IfNone result (IfSome self.old.active (Executes self.old self.new)) }
         ensures trap { IfSome result (λ t. IfSome self.old.active (λ at. Traps self.old self.new at t)) }
     {
-        self.ram.frames_are_whole();
+        self.memory.ram.frames_are_whole();
         let Some(at) = self.active else {
             unreachable!()
         };
-        let Some(trap) = self.hart.step(&mut self.ram, &mut self.translator) else {
+        let Some(trap) = self.hart.step(&mut self.memory.ram, &mut self.translator) else {
             return None;
         };
         let space = space_at(&self.places, at);
-        let Some(page) = closed_page(space, &self.ram, trap) else {
+        let Some(page) = closed_page(space, &self.memory.ram, trap) else {
             return Some(trap);
         };
-        space.open_page(&mut self.ram, &mut self.frames, page);
-        self.ram.frames_are_whole();
+        space.open_page(&mut self.memory, page);
+        self.memory.ram.frames_are_whole();
         let translator = &mut self.translator;
         translator.fence();
-        step_again(&mut self.hart, &mut self.ram, translator)
+        step_again(&mut self.hart, &mut self.memory.ram, translator)
     }
 
     /// The lowest free slot for pipes.
@@ -702,7 +694,7 @@ impl<T: Translate> Spaces<T> {
         ensures place { result ≡ free_slot self.now.pipes }
         ensures within { IfSome result (λ q. q < 100) }
     {
-        self.ram.frames_are_whole();
+        self.memory.ram.frames_are_whole();
         lowest_free(self.pipes.as_slice())
     }
 
@@ -713,7 +705,7 @@ impl<T: Translate> Spaces<T> {
         ensures done { OnTrue result (Fits self.old self.new (with_pipe self.old q (Some []))) }
         ensures refused { OnFalse result (Lacks self.old self.new (with_pipe self.old q (Some []))) }
     {
-        match self.frames.take(&self.ram) {
+        match self.memory.frames.take(&self.memory.ram) {
             Some(frame) => {
                 self.pipes[q] = Some(Pipe::new(frame));
                 true
@@ -728,7 +720,7 @@ impl<T: Translate> Spaces<T> {
         ensures { self.new ≡ with_pipe self.old q None }
     {
         let pipe = self.pipes[q].take().unwrap();
-        self.frames.give(&mut self.ram, pipe.frame());
+        self.memory.frames.give(&mut self.memory.ram, pipe.frame());
     }
 
     /// The bytes of a pipe, the oldest first: those of the second slice follow those of the first. `None` where
@@ -737,7 +729,7 @@ impl<T: Translate> Spaces<T> {
         ensures { option_map (λ r. r.0.now ++ r.1.now) result ≡ slot self.now.pipes q }
     {
         match pipe_in(&self.pipes, q) {
-            Some(pipe) => Some(pipe.bytes(&self.ram)),
+            Some(pipe) => Some(pipe.bytes(&self.memory.ram)),
             None => None,
         }
     }
@@ -768,7 +760,7 @@ impl<T: Translate> Spaces<T> {
         ensures count { result ≡ length (fitting (bytes_in self.old q) bytes.now) }
     {
         let pipe = self.pipes[q].as_mut().unwrap();
-        put_in(pipe, &mut self.ram, bytes)
+        put_in(pipe, &mut self.memory.ram, bytes)
     }
 
     // Takes bytes of a pipe into a buffer, as many as there are and fit, and returns how many.
@@ -779,7 +771,7 @@ impl<T: Translate> Spaces<T> {
         ensures count { result ≡ min (length buffer.old) (length (bytes_in self.old q)) }
     {
         let pipe = self.pipes[q].as_mut().unwrap();
-        take_out(pipe, &self.ram, buffer)
+        take_out(pipe, &self.memory.ram, buffer)
     }
 
     // Appends what fits of the bytes of a slot to a pipe, by way of a buffer that holds them all, and returns how many.

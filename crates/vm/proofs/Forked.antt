@@ -54,8 +54,8 @@ frames-absent m r (suc n) f other =
 -- ---- the steps: the page is closed, its frame gets a holder, the other tables get the page
 
 -- the page was marked and closed, and the others are as they were
-pub record IsClosed (m k : Ram) (x : Space) (n f leaf : ℕ) (s : Frames) : Type 0 where
-  pub stands : Reframes m k x s s
+pub record IsClosed (m k : Ram) (x : Space) (n f leaf : ℕ) (s o : Frames) : Type 0 where
+  pub stands : Reframes m k x s o
   pub page : page_at k x.root.0 n ≡ page_with (frame_of m f) leaf
   pub pages : SameOtherPages m k x n
   pub held : (v : ℕ) → count_of v (holds k x) ≡ count_of v (holds m x)
@@ -130,9 +130,9 @@ module _ {m : Ram} {x c : Space} {n : ℕ} {s : Frames} (is : IsPart m x c n s) 
       let more : frames_for (n + 1) ≡ frames_for (suc n) = ap frames_for (add-one n) in
       omega (arith, missing-next is.child.dense (omega arith))
 
-module _ {m k : Ram} {x : Space} {n f leaf : ℕ} {s : Frames} (e : IsClosed m k x n f leaf s) where
+module _ {m k : Ram} {x : Space} {n f leaf : ℕ} {s o : Frames} (e : IsClosed m k x n f leaf s o) where
   -- no frame is free then that wasn't
-  pub closed-free : IsSpace m x s → free_count k s ≡ free_count m s
+  pub closed-free : IsSpace m x s → free_count k o ≡ free_count m s
   closed-free is =
       omega (arith, Trades-lengths e.stands.trades is.free e.stands.space.free is.held, length-held)
 
@@ -141,10 +141,10 @@ module _ {m k : Ram} {x : Space} {n f leaf : ℕ} {s : Frames} (e : IsClosed m k
       → page_with bs leaf ≡ shared_page (page_at m x.root.0 n)
   closed-page same = rw (e.right, same) refl
 
-module _ {m k : Ram} {x c : Space} {n f leaf : ℕ} {s : Frames} (is : IsPart m x c n s) (low : n < pages_in x.size)
-    (e : IsClosed m k x n f leaf s) where
+module _ {m k : Ram} {x c : Space} {n f leaf : ℕ} {s o : Frames} (is : IsPart m x c n s) (low : n < pages_in x.size)
+    (e : IsClosed m k x n f leaf s o) where
   -- the part stays intact where the page is closed
-  pub part-closed : IsPart k x c n s
+  pub part-closed : IsPart k x c n o
       × ((v : ℕ) → count_of v (held k c.root.0 c.trap.0 n) ≡ count_of v (held m c.root.0 c.trap.0 n))
       × (pages_below k c.root.0 n ≡ pages_below m c.root.0 n) × (frame_of k c.trap.0 ≡ frame_of m c.trap.0)
   part-closed =
@@ -163,7 +163,7 @@ module _ {m k : Ram} {x c : Space} {n f leaf : ℕ} {s : Frames} (is : IsPart m 
       )
 
   pub part-more : {l : Ram} {q w : Frames} → frame_at m x.root.0 n ≡ f → IsFreeList k q
-      → ((v : ℕ) → holders_of k q v ≡ holders_of k s v + count_of v (f ∷ [])) → free_of k q ≡ free_of k s
+      → ((v : ℕ) → holders_of k q v ≡ holders_of k o v + count_of v (f ∷ [])) → free_of k q ≡ free_of k o
       → IsNext k l c.root.0 n f leaf q w
       → IsMore m l x c n s w
   part-more {l} {q} {w} was after more list next =
@@ -180,7 +180,7 @@ module _ {m k : Ram} {x c : Space} {n f leaf : ℕ} {s : Frames} (is : IsPart m 
       let child = next-held b next in
       let here = page-once part.0.parent n low e.frame in
       let first : Trades m k s q (holds m x ++ held m r t n) (f ∷ (held k r t n ++ holds k x)) =
-      Trades-with (Trades-twice e.stands.trades (Trades-more k s q f (holds k x) more (omega arith))) (held m r t n)
+      Trades-with (Trades-twice e.stands.trades (Trades-more k o q f (holds k x) more (omega arith))) (held m r t n)
       (holds m x ++ held m r t n) (f ∷ (held k r t n ++ holds k x))
       (λ v. omega (arith, count_of-append v (holds m x) (held m r t n)))
       (λ v. omega (arith, count_of-append v (held k r t n) (holds k x))) in

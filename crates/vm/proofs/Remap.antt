@@ -1,6 +1,6 @@
 -- A page gets another frame with the same bytes, or other marks.
 use Rattle.vm.proofs.Common.{Ram, [], among, among_first, among_first_not, ap, arith, Bool, cases_eq, count_of}
-use Rattle.vm.proofs.Common.{count_of-first, count_of-other, false, frame_at, frame_of, Frames, frames_below}
+use Rattle.vm.proofs.Common.{count_of-first, count_of-other, extra_of, false, frame_at, frame_of, Frames, frames_below}
 use Rattle.vm.proofs.Common.{free-first, free-holders, free_of, further-free, further_at, get_or-set_other}
 use Rattle.vm.proofs.Common.{get_or-set_same, HasRights, HasTable, held, held-inside, holders-free, holders-table}
 use Rattle.vm.proofs.Common.{holders_of, inl, inr, is_open, IsFreeList, IsLeafMarks, IsPaged, IsRearranged, IsSpace}
@@ -16,7 +16,7 @@ use Rattle.vm.proofs.DenseLemmas.{paged-same, pages-each, table-held, tables_bel
 use Rattle.vm.proofs.PageLemmas.{leaf-user, leaf-valid, right-leaf}
 
 -- Page p, whose frame was f, has frame g and these marks now. Frame g is f, or was free and has f's bytes.
-pub record IsRemap (m z k : Ram) (r p f g marks : ℕ) (s q : Frames) : Type 0 where
+pub record IsRemap (m z k : Ram) (r p f g marks : ℕ) (s q w : Frames) : Type 0 where
   pub was : frame_at m r p ≡ f
   pub count : length z ≡ length m
   pub rest : (v : ℕ) → 0 < holders_of m s v → frame_of z v ≡ frame_of m v
@@ -24,15 +24,15 @@ pub record IsRemap (m z k : Ram) (r p f g marks : ℕ) (s q : Frames) : Type 0 w
   pub new : (g ≡ f) ⊎ (holders_of m s g ≡ 0)
   pub apart : (v : ℕ) → 0 < holders_of m s v → among v (free_of z q) ≡ false
   pub taken : among g (free_of z q) ≡ false
-  pub moved : (v : ℕ) → holders_of k q v + count_of v (f ∷ []) ≡ holders_of m s v + count_of v (g ∷ [])
-  pub fewer : (v : ℕ) → further_at q v ≤ further_at s v
+  pub moved : (v : ℕ) → holders_of k w v + count_of v (f ∷ []) ≡ holders_of m s v + count_of v (g ∷ [])
+  pub fewer : (v : ℕ) → further_at w v ≤ further_at s v
   pub leaf : IsUserLeaf marks
-  pub sole : is_open marks ≡ true → further_at q g ≡ 0
+  pub sole : is_open marks ≡ true → further_at w g ≡ 0
   pub inserts : Maps z k r p g marks
   pub tables : SameTables z k r
   pub tidy : IsTidy k r
-  pub paged : IsPaged k r q
-  pub keeps : Keeps z k r q q
+  pub paged : IsPaged k r w
+  pub keeps : Keeps z k r q w
 
 held-some : {m : Ram} {r t n : ℕ} {s : Frames} → OwnsFrames m r t n s → (v : ℕ) → 0 < count_of v (held m r t n)
     → 0 < holders_of m s v
@@ -64,8 +64,8 @@ page-is-held : (m : Ram) (r t n p f : ℕ) → p < n → frame_at m r p ≡ f �
 page-is-held m r t n p f low was =
     omega (arith, count-held, page-held m r n p low, ap (λ x. count_of x (frames_below m r n)) was)
 
-module _ {m z k : Ram} {r t n p f g marks : ℕ} {s q : Frames} (is : OwnsFrames m r t n s) (low : p < n)
-    (e : IsRemap m z k r p f g marks s q) where
+module _ {m z k : Ram} {r t n p f g marks : ℕ} {s q w : Frames} (is : OwnsFrames m r t n s) (low : p < n)
+    (e : IsRemap m z k r p f g marks s q w) where
   table-stays : (v : ℕ) → HasTable m r v → frame_of z v ≡ frame_of m v
   table-stays v h = e.rest v (held-some is v (omega (arith, count-held, table-held is.dense h)))
 
@@ -105,7 +105,7 @@ module _ {m z k : Ram} {r t n p f g marks : ℕ} {s q : Frames} (is : OwnsFrames
       )
 
   -- the space is intact
-  remap-space : OwnsFrames k r t n q
+  remap-space : OwnsFrames k r t n w
   remap-space =
       let here = page-is-held m r t n p f low e.was in
       record {
@@ -121,7 +121,7 @@ module _ {m z k : Ram} {r t n p f g marks : ℕ} {s q : Frames} (is : OwnsFrames
         free = e.paged.free;
         held = λ v. omega (arith, remap-held v);
         own = λ v some. omega (arith, is.own v (omega (arith, ap (count_of v) tables-same)));
-        alone = alone-set m k r n n p g marks s q e.fewer e.inserts.changed (λ j h ne. (h, remap-looks j h ne)) e.sole
+        alone = alone-set m k r n n p g marks s w e.fewer e.inserts.changed (λ j h ne. (h, remap-looks j h ne)) e.sole
             is.alone;
       }
 
@@ -130,7 +130,7 @@ module _ {m z k : Ram} {r t n p f g marks : ℕ} {s q : Frames} (is : OwnsFrames
   remap-bytes v some none = e.keeps.others v (λ h. omega (arith, table-was v h)) (e.apart v some) ∙ e.rest v some
 
   -- it trades one frame for another
-  remap-trades : Trades m k s q (held m r t n) (held k r t n)
+  remap-trades : Trades m k s w (held m r t n) (held k r t n)
   remap-trades = record {
     count = e.keeps.count ∙ e.count;
     moved = λ v. omega (arith, remap-held v);
@@ -187,8 +187,8 @@ module _ {m z k : Ram} {r t n p f g marks : ℕ} {s q : Frames} (is : OwnsFrames
       remap-bytes t (held-some is t (omega (arith, count-held m r t n t))) (omega (arith, count-held m r t n t))
 
 -- where the page keeps its frame, all pages do, and what is held stays
-module _ {m z k : Ram} {r t n p f marks : ℕ} {s q : Frames} (is : OwnsFrames m r t n s) (low : p < n)
-    (e : IsRemap m z k r p f f marks s q) where
+module _ {m z k : Ram} {r t n p f marks : ℕ} {s q w : Frames} (is : OwnsFrames m r t n s) (low : p < n)
+    (e : IsRemap m z k r p f f marks s q w) where
   pub remap-frames : (j : ℕ) → j < n → frame_at k r j ≡ frame_at m r j
   remap-frames j h = elim (cases_eq j p) [
     | inl at ↦ ap (frame_at k r) at ∙ frame_at-is k r p e.inserts.changed ∙ sym e.was ∙ ap (frame_at m r) (sym at)
@@ -200,12 +200,12 @@ module _ {m z k : Ram} {r t n p f marks : ℕ} {s q : Frames} (is : OwnsFrames m
 
 -- ---- the whole space
 
-module _ {m z k : Ram} {p f g marks : ℕ} {s q : Frames} (x : Space) (is : IsSpace m x s) (low : p < pages_in x.size)
-    (e : IsRemap m z k x.root.0 p f g marks s q) where
-  pub reframed : Reframes m k x s q
+module _ {m z k : Ram} {p f g marks : ℕ} {s q w : Frames} (x : Space) (is : IsSpace m x s) (low : p < pages_in x.size)
+    (e : IsRemap m z k x.root.0 p f g marks s q w) where
+  pub reframed : Reframes m k x s w
   reframed = record { space = remap-space is low e; registers = remap-trap is low e; trades = remap-trades is low e }
 
-  pub rearranged : HasRights m x p marks → IsRearranged m k x s q
+  pub rearranged : HasRights m x p marks → IsRearranged m k x s w
   rearranged right = record { frames = reframed; pages = remap-pages is low e right }
 
 -- ---- frames that change, one after another
@@ -217,28 +217,33 @@ reframes-twice a b = record
 
 -- ---- other marks for the same frame
 
-pub remap-marks : {m k : Ram} {r t n p f marks : ℕ} {s : Frames} → OwnsFrames m r t n s → p < n → frame_at m r p ≡ f
-    → IsUserLeaf marks → (is_open marks ≡ true → further_at s f ≡ 0)
-    → Maps m k r p f marks → SameTables m k r → IsTidy k r → IsPaged k r s → Keeps m k r s s
-    → free_of k s ≡ free_of m s → IsRemap m m k r p f f marks s s
-remap-marks {m} {k} {r} {t} {n} {p} {f} {s = s} is low was leaf sole inserts tables tidy paged keeps free = record {
-  was = was;
-  count = refl;
-  rest = λ v some. refl;
-  bytes = refl;
-  new = inl refl;
-  apart = λ v some. (held-inside m s v is.free some).1;
-  taken = (held-inside m s f is.free (held-some is f (page-is-held m r t n p f low was))).1;
-  moved = λ v. omega (arith, holders-table is.free paged.free keeps.count refl v, ap (count_of v) free);
-  fewer = λ v. omega arith;
-  leaf = leaf;
-  sole = sole;
-  inserts = inserts;
-  tables = tables;
-  tidy = tidy;
-  paged = paged;
-  keeps = keeps;
-}
+pub remap-marks : {m k : Ram} {r t n p f marks : ℕ} {s w : Frames} → OwnsFrames m r t n s → p < n → frame_at m r p ≡ f
+    → IsUserLeaf marks → (is_open marks ≡ true → further_at s f ≡ 0) → w ≡ s
+    → Maps m k r p f marks → SameTables m k r → IsTidy k r → IsPaged k r w → Keeps m k r s w
+    → free_of k w ≡ free_of m s → IsRemap m m k r p f f marks s s w
+remap-marks {m} {k} {r} {t} {n} {p} {f} {s = s} is low was leaf sole kept inserts tables tidy paged keeps free =
+    record {
+      was = was;
+      count = refl;
+      rest = λ v some. refl;
+      bytes = refl;
+      new = inl refl;
+      apart = λ v some. (held-inside m s v is.free some).1;
+      taken = (held-inside m s f is.free (held-some is f (page-is-held m r t n p f low was))).1;
+      moved = λ v. omega (
+        arith,
+        holders-table is.free paged.free keeps.count (ap extra_of kept) v,
+        ap (count_of v) free,
+      );
+      fewer = λ v. rw kept (omega arith);
+      leaf = leaf;
+      sole = λ wide. rw kept (sole wide);
+      inserts = inserts;
+      tables = tables;
+      tidy = tidy;
+      paged = paged;
+      keeps = keeps;
+    }
 
 -- ---- a frame of its own
 
@@ -296,10 +301,11 @@ module _ {m z : Ram} {r t n : ℕ} {s q : Frames} {f g : ℕ} (is : OwnsFrames m
   pub split-mapped : (p : ℕ) → p < n → lookup_of z r p ≢ None
   split-mapped p low none = cc (split-paged.2 p, none, is.dense.pages p low)
 
-  pub remap-split : {k : Ram} {p marks : ℕ} → p < n → frame_at m r p ≡ f → IsUserLeaf marks → Maps z k r p g marks
-      → SameTables z k r → IsTidy k r → IsPaged k r q → Keeps z k r q q → free_of k q ≡ free_of z q
-      → IsRemap m z k r p f g marks s q
-  remap-split {k} low was leaf inserts tables tidy paged keeps free =
+  pub remap-split : {k : Ram} {p marks : ℕ} {w : Frames} → p < n → frame_at m r p ≡ f → IsUserLeaf marks → w ≡ q
+      → Maps z k r p g marks → SameTables z k r → IsTidy k r → IsPaged k r w → Keeps z k r q w
+      → free_of k w ≡ free_of z q
+      → IsRemap m z k r p f g marks s q w
+  remap-split {k} low was leaf kept inserts tables tidy paged keeps free =
       let first = free-first is.free g (free_of m q) e.taken in
       record {
         was = was;
@@ -311,12 +317,12 @@ module _ {m z : Ram} {r t n : ℕ} {s q : Frames} {f g : ℕ} (is : OwnsFrames m
         taken = ap (among g) (split-free is.free e).0 ∙ first.1;
         moved = λ v. omega (
           arith,
-          holders-table e.after paged.free (keeps.count ∙ split-count is.free e) refl v,
+          holders-table e.after paged.free (keeps.count ∙ split-count is.free e) (ap extra_of kept) v,
           ap (count_of v) (free ∙ (split-free is.free e).0),
         );
-        fewer = split-fewer is.free e;
+        fewer = λ v. rw kept (split-fewer is.free e v);
         leaf = leaf;
-        sole = λ wide. split-sole is.free e;
+        sole = λ wide. rw kept (split-sole is.free e);
         inserts = inserts;
         tables = tables;
         tidy = tidy;

@@ -4,4 +4,5 @@ pub mod Space
 pub mod Fork
 pub mod Reach
 pub mod Shares
+pub mod Owned
 pub mod TrapFrame

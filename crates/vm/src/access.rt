@@ -11,12 +11,13 @@ ghost use Rattle.unixmodel.specs.Memory.{permits, reach, can_write, read_bytes, 
 ghost use Rattle.vm.specs.Dense.{marks_at};
 ghost use Rattle.vm.specs.Leaf.{rights_from, is_open, mapped_as, right_marks};
 ghost use Rattle.vm.specs.Reach.{run_of, piece_at, short_string, string_in};
-ghost use Rattle.vm.specs.Space.{pages_in, max_size, IsMapped, IsOnce, IsSpace, Stands, entries_of, mapping_of};
-ghost use Rattle.vm.specs.Space.{page_frame, pages_of, Reframes, StaysOpen, stored};
+ghost use Rattle.vm.specs.Owned.{IsSpace, Reframes};
+ghost use Rattle.vm.specs.Space.{pages_in, max_size, IsMapped, IsOnce, Stands, entries_of, mapping_of};
+ghost use Rattle.vm.specs.Space.{page_frame, pages_of, StaysOpen, stored};
 
 use crate::{Marks, Perm, RIGHT, SHARED, Space, VmFault, pages_in};
 use bitflags::Flags;
-use frames::Frames;
+use frames::Memory;
 use pagetable::PageTable;
 use ram::{FrameNo, Ram};
 use sv39::EntryBits;
@@ -287,63 +288,58 @@ impl Space {
     }
 
     // Writes the bytes that lie in the page of an address, and returns how many.
-    fn write_page(&self, ram: &mut Ram, frames: &mut Frames, address: u64, bytes: &[u8]) -> usize
-        requires space { IsSpace ram.old self.now frames.old }
+    fn write_page(&self, memory: &mut Memory, address: u64, bytes: &[u8]) -> usize
+        requires space { IsSpace memory.old self.now }
         requires page { address / 4096 < pages_in self.now.size }
         requires some { 0 < length bytes.now }
         ensures count { result ≡ min (4096 - address % 4096) (length bytes.now) }
-        ensures rest { stored ram.new self.now (address + result) (drop result bytes.now)
-            ≡ stored ram.old self.now address bytes.now }
-        ensures frames { Reframes ram.old ram.new self.now frames.old frames.new }
-        ensures opens { StaysOpen ram.old ram.new self.now self.now }
+        ensures rest { stored memory.new.ram self.now (address + result) (drop result bytes.now)
+            ≡ stored memory.old.ram self.now address bytes.now }
+        ensures frames { Reframes memory.old memory.new self.now }
+        ensures opens { StaysOpen memory.old.ram memory.new.ram self.now self.now }
     {
         let at = (address % 4096) as usize;
         let len = (4096 - at).min(bytes.len());
-        let frame = self.open_page(ram, frames, address / 4096);
-        write_part(ram, frame, at, &bytes[..len]);
+        let frame = self.open_page(memory, address / 4096);
+        write_part(&mut memory.ram, frame, at, &bytes[..len]);
         len
     }
 
     /// Writes bytes into the pages from an address on, whatever the marks of the pages, as a loader does.
     ///
     /// A page whose frame others hold too gets a frame of its own first.
-    pub fn fill(&self, ram: &mut Ram, frames: &mut Frames, address: u64, bytes: &[u8])
-        requires space { IsSpace ram.old self.now frames.old }
+    pub fn fill(&self, memory: &mut Memory, address: u64, bytes: &[u8])
+        requires space { IsSpace memory.old self.now }
         requires inside { (i : ℕ) → i < length bytes.now → (address + i) / 4096 < pages_in self.now.size }
-        ensures written { pages_of ram.new self.now ≡ stored ram.old self.now address bytes.now }
-        ensures frames { Reframes ram.old ram.new self.now frames.old frames.new }
-        ensures opens { StaysOpen ram.old ram.new self.now self.now }
+        ensures written { pages_of memory.new.ram self.now ≡ stored memory.old.ram self.now address bytes.now }
+        ensures frames { Reframes memory.old memory.new self.now }
+        ensures opens { StaysOpen memory.old.ram memory.new.ram self.now self.now }
     {
         let mut done = 0;
         while done < bytes.len() {
-            done += self.write_page(ram, frames, address + done as u64, &bytes[done..]);
+            done += self.write_page(memory, address + done as u64, &bytes[done..]);
         }
     }
 
     /// Copies bytes to an address. `BadAddress` where a program may not write them all.
     ///
     /// A page whose frame others hold too gets a frame of its own first.
-    pub fn copy_out(
-        &self,
-        ram: &mut Ram,
-        frames: &mut Frames,
-        address: u64,
-        bytes: &[u8],
-    ) -> Result<(), VmFault>
-        requires { IsSpace ram.old self.now frames.old }
-        ensures written { OnOk result (pages_of ram.new self.now ≡ stored ram.old self.now address bytes.now) }
-        ensures bad { IsErrOf result VmFault.BadAddress ↔ can_write (pages_of ram.old self.now) address
+    pub fn copy_out(&self, memory: &mut Memory, address: u64, bytes: &[u8]) -> Result<(), VmFault>
+        requires { IsSpace memory.old self.now }
+        ensures written { OnOk result
+            (pages_of memory.new.ram self.now ≡ stored memory.old.ram self.now address bytes.now) }
+        ensures bad { IsErrOf result VmFault.BadAddress ↔ can_write (pages_of memory.old.ram self.now) address
             (length bytes.now) ≡ false }
         ensures only { OnErr result (IsErrOf result VmFault.BadAddress) }
-        ensures unchanged { OnErr result ((ram.new ≡ ram.old) × (frames.new ≡ frames.old)) }
-        ensures frames { Reframes ram.old ram.new self.now frames.old frames.new }
-        ensures opens { StaysOpen ram.old ram.new self.now self.now }
+        ensures unchanged { OnErr result (memory.new ≡ memory.old) }
+        ensures frames { Reframes memory.old memory.new self.now }
+        ensures opens { StaysOpen memory.old.ram memory.new.ram self.now self.now }
     {
-        ram.frames_are_whole();
-        if !self.can_write(ram, address, bytes.len() as u64) {
+        memory.ram.frames_are_whole();
+        if !self.can_write(&memory.ram, address, bytes.len() as u64) {
             return Err(VmFault::BadAddress);
         }
-        self.fill(ram, frames, address, bytes);
+        self.fill(memory, address, bytes);
         Ok(())
     }
 }

@@ -13,16 +13,18 @@
 ghost use Rattle.std.specs.Prelude.{◌≡◌, ◌≢◌, ℕ, ◌+◌, ◌-◌, ◌*◌, ◌/◌, ◌%◌, ◌^◌, ◌<◌, ◌≤◌, List, [], ◌∷◌, ◌++◌, length};
 ghost use Rattle.std.specs.Prelude.{take, replicate, None, Some, true, false, OnOk, OnErr, IsErrOf, IsTrue, ◌↔◌, ◌⊎◌};
 ghost use Rattle.ram.specs.Memory.{frame_of};
-ghost use Rattle.frames.specs.Free.{among, extra_of, free_of, free_count, IsFreeList};
-ghost use Rattle.frames.specs.Holders.{Trades, one_if};
+ghost use Rattle.frames.specs.Free.{among};
+ghost use Rattle.frames.specs.Holders.{one_if};
+ghost use Rattle.frames.specs.Owned.{free_count, IsFreeList, Trades};
 ghost use Rattle.std.specs.Option.{option_map};
-ghost use Rattle.pagetable.specs.Shape.{Adds, IsTidy, Removes};
-ghost use Rattle.pagetable.specs.Tree.{IsLeafMarks, IsPaged, Keeps, Maps, lookup_of, missing};
-ghost use Rattle.vm.specs.Dense.{IsDense, IsTableFor, OwnsFrames, SameLeaves, SameLeavesUpTo, blank_page, frames_for};
+ghost use Rattle.pagetable.specs.Owned.{MapsTo, Unmaps};
+ghost use Rattle.pagetable.specs.Tree.{IsLeafMarks, missing};
+ghost use Rattle.vm.specs.Dense.{IsDense, IsTableFor, SameLeaves, SameLeavesUpTo, blank_page, frames_for};
 ghost use Rattle.vm.specs.Dense.{marks_at};
 ghost use Rattle.unixmodel.specs.Memory.{shared_marks, shared_memory};
 ghost use Rattle.vm.specs.Leaf.{marks_from, rights_from, user_leaf, IsUserLeaf};
-ghost use Rattle.vm.specs.Space.{GainsHolders, HasFramesOf, IsSpace, LacksFrames, SharesWith, StaysOpen, entries_of};
+ghost use Rattle.vm.specs.Owned.{AddsPage, Copies, Creates, DropsPages, Grows, HasPages, IsSpace, LacksFrames, Shrinks};
+ghost use Rattle.vm.specs.Space.{HasFramesOf, StaysOpen, entries_of};
 ghost use Rattle.vm.specs.Space.{first_pages, held_by, holds, mapping_of, max_size, new_pages, pages_in, pages_of};
 ghost use Rattle.vm.specs.Space.{registers_of};
 
@@ -31,9 +33,9 @@ pub mod shares;
 mod sharing;
 mod trapframe;
 
-use frames::Frames;
+use frames::Memory;
 use pagetable::{PageTable, leaf_marks};
-use ram::{FrameNo, Ram};
+use ram::FrameNo;
 use sv39::EntryBits;
 use thiserror::Error;
 
@@ -176,24 +178,21 @@ impl Space {
     }
 
     /// Makes a space of no pages, whose trap frame is all 0. `Frames` where fewer than 4 frames are free.
-    pub fn new(ram: &mut Ram, frames: &mut Frames) -> Result<Space, VmFault>
-        requires { IsFreeList ram.old frames.old }
-        ensures space { IfOk result (λ s. IsSpace ram.new s frames.new) }
-        ensures size { IfOk result (λ s. s.size ≡ 0) }
-        ensures registers { IfOk result (λ s. registers_of ram.new s ≡ replicate 4096 0) }
-        ensures full { IsErrOf result VmFault.Frames ↔ free_count ram.old frames.old < frames_for 0 }
+    pub fn new(memory: &mut Memory) -> Result<Space, VmFault>
+        requires { IsFreeList memory.old }
+        ensures made { IfOk result (Creates memory.old memory.new) }
+        ensures full { IsErrOf result VmFault.Frames ↔ free_count memory.old < frames_for 0 }
         ensures only { OnErr result (IsErrOf result VmFault.Frames) }
-        ensures unchanged { OnErr result ((ram.new ≡ ram.old) × (frames.new ≡ frames.old)) }
-        ensures trades { IfOk result (λ s. Trades ram.old ram.new frames.old frames.new [] (holds ram.new s)) }
+        ensures unchanged { OnErr result (memory.new ≡ memory.old) }
     {
-        ram.frames_are_whole();
-        if frames.free() < 4 {
+        memory.ram.frames_are_whole();
+        if memory.frames.free() < 4 {
             return Err(VmFault::Frames);
         }
-        let table = PageTable::new(ram, frames).unwrap();
-        let trap = frames.take(ram).unwrap();
-        ram.zero(trap);
-        table.map(ram, frames, TRAP_PAGE, trap, TRAP).unwrap();
+        let table = PageTable::new(memory).unwrap();
+        let trap = memory.frames.take(&memory.ram).unwrap();
+        memory.ram.zero(trap);
+        table.map(memory, TRAP_PAGE, trap, TRAP).unwrap();
         Ok(Space {
             root: table.root,
             trap,
@@ -204,34 +203,28 @@ impl Space {
     // Maps the next page. Returns its table, if the page after it has the same.
     fn map_page(
         &self,
-        ram: &mut Ram,
-        frames: &mut Frames,
+        memory: &mut Memory,
         n: u64,
         frame: FrameNo,
         marks: EntryBits,
         low: Option<FrameNo>,
     ) -> Option<FrameNo>
-        requires held { OwnsFrames ram.old self.now.root.0 self.now.trap.0 n frames.old }
+        requires held { HasPages memory.old self.now n }
         requires small { n < 32768 }
-        requires room { missing ram.old self.now.root.0 n ≤ free_count ram.old frames.old }
-        requires frame { frame.0 < length ram.old }
+        requires room { missing memory.old.ram self.now.root.0 n ≤ free_count memory.old }
+        requires frame { frame.0 < length memory.old.ram }
         requires marks { IsLeafMarks marks.0 }
-        requires low { n % 512 ≢ 0 → IsTableFor ram.old self.now.root.0 n low }
-        ensures mapped { Maps ram.old ram.new self.now.root.0 n frame.0 marks.0 }
-        ensures adds { Adds ram.old ram.new self.now.root.0 n frames.old frames.new }
-        ensures tidy { IsTidy ram.new self.now.root.0 }
-        ensures paged { IsPaged ram.new self.now.root.0 frames.new }
-        ensures keeps { Keeps ram.old ram.new self.now.root.0 frames.old frames.new }
-        ensures extra { extra_of frames.new ≡ extra_of frames.old }
-        ensures low { (n + 1) % 512 ≢ 0 → IsTableFor ram.new self.now.root.0 (n + 1) result }
+        requires low { n % 512 ≢ 0 → IsTableFor memory.old.ram self.now.root.0 n low }
+        ensures mapped { MapsTo memory.old memory.new self.now.root.0 n frame.0 marks.0 }
+        ensures low { (n + 1) % 512 ≢ 0 → IsTableFor memory.new.ram self.now.root.0 (n + 1) result }
     {
         let table = PageTable { root: self.root };
         if n % 512 == 0 {
-            table.map(ram, frames, n, frame, marks).unwrap();
+            table.map(memory, n, frame, marks).unwrap();
             return None;
         }
-        let low = table.leaf_table(ram, n, low);
-        table.map_in(ram, frames, low, n, frame, marks);
+        let low = table.leaf_table(&memory.ram, n, low);
+        table.map_in(memory, low, n, frame, marks);
         Some(low)
     }
 
@@ -239,34 +232,24 @@ impl Space {
     // after it.
     fn add_page(
         &self,
-        ram: &mut Ram,
-        frames: &mut Frames,
+        memory: &mut Memory,
         n: u64,
         marks: EntryBits,
         low: Option<FrameNo>,
     ) -> Option<FrameNo>
-        requires held { OwnsFrames ram.old self.now.root.0 self.now.trap.0 n frames.old }
+        requires held { HasPages memory.old self.now n }
         requires small { n < 32768 }
-        requires room { frames_for (n + 1) ≤ frames_for n + free_count ram.old frames.old }
+        requires room { frames_for (n + 1) ≤ frames_for n + free_count memory.old }
         requires marks { IsLeafMarks marks.0 }
         requires user { IsUserLeaf marks.0 }
-        requires low { n % 512 ≢ 0 → IsTableFor ram.old self.now.root.0 n low }
-        ensures low { (n + 1) % 512 ≢ 0 → IsTableFor ram.new self.now.root.0 (n + 1) result }
-        ensures held { OwnsFrames ram.new self.now.root.0 self.now.trap.0 (n + 1) frames.new }
-        ensures pages { first_pages ram.new self.now (n + 1) ≡ first_pages ram.old self.now n
-            ++ (blank_page marks.0 ∷ []) }
-        ensures mapping { SameLeavesUpTo ram.old ram.new self.now.root.0 n }
-        ensures marks { marks_at ram.new self.now.root.0 n ≡ marks.0 }
-        ensures trap { frame_of ram.new self.now.trap.0 ≡ frame_of ram.old self.now.trap.0 }
-        ensures trades { Trades ram.old ram.new frames.old frames.new (held_by ram.old self.now n)
-            (held_by ram.new self.now (n + 1)) }
-        ensures room { frames_for (n + 1) + free_count ram.new frames.new
-            ≡ frames_for n + free_count ram.old frames.old }
+        requires low { n % 512 ≢ 0 → IsTableFor memory.old.ram self.now.root.0 n low }
+        ensures adds { AddsPage memory.old memory.new self.now n marks.0 }
+        ensures low { (n + 1) % 512 ≢ 0 → IsTableFor memory.new.ram self.now.root.0 (n + 1) result }
     {
-        ram.frames_are_whole();
-        let frame = frames.take(ram).unwrap();
-        ram.zero(frame);
-        self.map_page(ram, frames, n, frame, marks, low)
+        memory.ram.frames_are_whole();
+        let frame = memory.frames.take(&memory.ram).unwrap();
+        memory.ram.zero(frame);
+        self.map_page(memory, n, frame, marks, low)
     }
 
     /// Makes a space with the same pages, whose frames each have one holder more then; its trap frame is all 0.
@@ -274,30 +257,19 @@ impl Space {
     /// Every page is closed in both, and marked as one that a fork had: who may write it by right and stores to it
     /// first gets a frame of its own. Each page is counted in full: `Frames` where fewer frames are free than the space
     /// would need if it shared none.
-    pub fn copy(&self, ram: &mut Ram, frames: &mut Frames) -> Result<Space, VmFault>
-        requires { IsSpace ram.old self.now frames.old }
-        ensures space { IfOk result (λ c. IsSpace ram.new c frames.new) }
-        ensures size { IfOk result (λ c. c.size ≡ self.now.size) }
-        ensures pages { IfOk result (λ c. pages_of ram.new c ≡ shared_memory (pages_of ram.old self.now)) }
-        ensures registers { IfOk result (λ c. registers_of ram.new c ≡ replicate 4096 0) }
-        ensures source { IsSpace ram.new self.now frames.new }
-        ensures marked { OnOk result (pages_of ram.new self.now ≡ shared_memory (pages_of ram.old self.now)) }
-        ensures kept { registers_of ram.new self.now ≡ registers_of ram.old self.now }
-        ensures frames { HasFramesOf ram.old ram.new self.now self.now }
-        ensures shared { IfOk result (HasFramesOf ram.old ram.new self.now) }
-        ensures holders { OnOk result (GainsHolders ram.old ram.new self.now frames.old frames.new) }
-        ensures full { IsErrOf result VmFault.Frames ↔ free_count ram.old frames.old
-            < frames_for (pages_in self.now.size) }
+    pub fn copy(&self, memory: &mut Memory) -> Result<Space, VmFault>
+        requires { IsSpace memory.old self.now }
+        ensures copies { IfOk result (Copies memory.old memory.new self.now) }
+        ensures full { IsErrOf result VmFault.Frames ↔ free_count memory.old < frames_for (pages_in self.now.size) }
         ensures only { OnErr result (IsErrOf result VmFault.Frames) }
-        ensures unchanged { OnErr result ((ram.new ≡ ram.old) × (frames.new ≡ frames.old)) }
-        ensures trades { IfOk result (λ c. SharesWith ram.old ram.new self.now c frames.old frames.new) }
+        ensures unchanged { OnErr result (memory.new ≡ memory.old) }
     {
-        ram.frames_are_whole();
-        if u64::from(frames.free()) < frames_for(pages_in(self.size)) {
+        memory.ram.frames_are_whole();
+        if u64::from(memory.frames.free()) < frames_for(pages_in(self.size)) {
             return Err(VmFault::Frames);
         }
-        let mut child = Space::new(ram, frames).unwrap();
-        self.share_pages(&child, ram, frames);
+        let mut child = Space::new(memory).unwrap();
+        self.share_pages(&child, memory);
         child.size = self.size;
         Ok(child)
     }
@@ -307,46 +279,28 @@ impl Space {
     ///
     /// `TooLarge` where the size would pass `MAX_SIZE`; if it wouldn't, `Frames` where fewer frames are
     /// free than the pages and their tables need. The cost depends on the new pages alone.
-    pub fn grow(
-        &mut self,
-        ram: &mut Ram,
-        frames: &mut Frames,
-        bytes: u64,
-        perm: Perm,
-    ) -> Result<(), VmFault>
-        requires { IsSpace ram.old self.old frames.old }
-        ensures space { IsSpace ram.new self.new frames.new }
-        ensures size { OnOk result (self.new.size ≡ self.old.size + bytes) }
-        ensures pages { OnOk result
-            (pages_of ram.new self.new ≡ pages_of ram.old self.old ++ new_pages self.old.size bytes perm) }
-        ensures mapping { OnOk result
-            (take (pages_in self.old.size) (mapping_of ram.new self.new) ≡ mapping_of ram.old self.old) }
-        ensures entries { OnOk result
-            (take (pages_in self.old.size) (entries_of ram.new self.new) ≡ entries_of ram.old self.old) }
-        ensures opens { StaysOpen ram.old ram.new self.old self.new }
-        ensures root { self.new.root ≡ self.old.root }
-        ensures registers { registers_of ram.new self.new ≡ registers_of ram.old self.old }
+    pub fn grow(&mut self, memory: &mut Memory, bytes: u64, perm: Perm) -> Result<(), VmFault>
+        requires { IsSpace memory.old self.old }
+        ensures grows { OnOk result (Grows memory.old memory.new self.old self.new bytes perm) }
         ensures large { IsErrOf result VmFault.TooLarge ↔ max_size < self.old.size + bytes }
-        ensures full { IsErrOf result VmFault.Frames ↔ LacksFrames ram.old frames.old self.old.size bytes }
+        ensures full { IsErrOf result VmFault.Frames ↔ LacksFrames memory.old self.old.size bytes }
         ensures only { OnErr result (IsErrOf result VmFault.TooLarge ⊎ IsErrOf result VmFault.Frames) }
-        ensures unchanged { OnErr result ((ram.new ≡ ram.old) × (frames.new ≡ frames.old) × (self.new ≡ self.old)) }
-        ensures trades { Trades ram.old ram.new frames.old frames.new (holds ram.old self.old)
-            (holds ram.new self.new) }
+        ensures unchanged { OnErr result ((memory.new ≡ memory.old) × (self.new ≡ self.old)) }
     {
-        ram.frames_are_whole();
+        memory.ram.frames_are_whole();
         if bytes > MAX_SIZE - self.size {
             return Err(VmFault::TooLarge);
         }
         let size = self.size + bytes;
         let from = pages_in(self.size);
         let to = pages_in(size);
-        if frames_for(from) + u64::from(frames.free()) < frames_for(to) {
+        if frames_for(from) + u64::from(memory.frames.free()) < frames_for(to) {
             return Err(VmFault::Frames);
         }
         let leaf = Marks::new(perm).leaf();
         let mut low = None;
         for page in from..to {
-            low = self.add_page(ram, frames, page, leaf, low);
+            low = self.add_page(memory, page, leaf, low);
         }
         self.size = size;
         Ok(())
@@ -357,108 +311,73 @@ impl Space {
     // of the page before it.
     fn unmap_page(
         &self,
-        ram: &mut Ram,
-        frames: &mut Frames,
+        memory: &mut Memory,
         n: u64,
         low: Option<FrameNo>,
     ) -> (FrameNo, Option<FrameNo>)
-        requires held { OwnsFrames ram.old self.now.root.0 self.now.trap.0 (n + 1) frames.old }
-        requires low { IsTableFor ram.old self.now.root.0 n low }
-        ensures was { option_map (λ x. x.0) (lookup_of ram.old self.now.root.0 n) ≡ Some result.0.0 }
-        ensures low { IsTableFor ram.new self.now.root.0 (n - 1) result.1 }
-        ensures removes { Removes (lookup_of ram.old self.now.root.0) (lookup_of ram.new self.now.root.0) n }
-        ensures drops { Adds ram.new ram.old self.now.root.0 n frames.new frames.old }
-        ensures tidy { IsTidy ram.new self.now.root.0 }
-        ensures paged { IsPaged ram.new self.now.root.0 frames.new }
-        ensures keeps { Keeps ram.old ram.new self.now.root.0 frames.old frames.new }
-        ensures extra { extra_of frames.new ≡ extra_of frames.old }
+        requires held { HasPages memory.old self.now (n + 1) }
+        requires low { IsTableFor memory.old.ram self.now.root.0 n low }
+        ensures unmaps { Unmaps memory.old memory.new self.now.root.0 n result.0.0 }
+        ensures low { IsTableFor memory.new.ram self.now.root.0 (n - 1) result.1 }
     {
         let table = PageTable { root: self.root };
         if n == 0 {
-            return (table.unmap_last(ram, frames, n), None);
+            return (table.unmap_last(memory, n), None);
         }
         if n % 512 == 0 {
-            return (table.unmap(ram, frames, n), None);
+            return (table.unmap(memory, n), None);
         }
-        let low = table.leaf_table(ram, n, low);
-        (table.unmap_in(ram, frames, low, n), Some(low))
+        let low = table.leaf_table(&memory.ram, n, low);
+        (table.unmap_in(memory, low, n), Some(low))
     }
 
     // Gives back the last page. `low` is its table, if that is known; returned is that of the page before it.
-    fn drop_page(
-        &self,
-        ram: &mut Ram,
-        frames: &mut Frames,
-        n: u64,
-        low: Option<FrameNo>,
-    ) -> Option<FrameNo>
-        requires held { OwnsFrames ram.old self.now.root.0 self.now.trap.0 (n + 1) frames.old }
-        requires low { IsTableFor ram.old self.now.root.0 n low }
-        ensures low { IsTableFor ram.new self.now.root.0 (n - 1) result }
-        ensures held { OwnsFrames ram.new self.now.root.0 self.now.trap.0 n frames.new }
-        ensures pages { (k : ℕ) → k ≤ n → first_pages ram.new self.now k ≡ first_pages ram.old self.now k }
-        ensures mapping { SameLeavesUpTo ram.old ram.new self.now.root.0 n }
-        ensures trap { frame_of ram.new self.now.trap.0 ≡ frame_of ram.old self.now.trap.0 }
-        ensures trades { Trades ram.old ram.new frames.old frames.new (held_by ram.old self.now (n + 1))
-            (held_by ram.new self.now n) }
+    fn drop_page(&self, memory: &mut Memory, n: u64, low: Option<FrameNo>) -> Option<FrameNo>
+        requires held { HasPages memory.old self.now (n + 1) }
+        requires low { IsTableFor memory.old.ram self.now.root.0 n low }
+        ensures drops { DropsPages memory.old memory.new self.now (n + 1) n }
+        ensures low { IsTableFor memory.new.ram self.now.root.0 (n - 1) result }
     {
-        ram.frames_are_whole();
-        let (frame, low) = self.unmap_page(ram, frames, n, low);
-        frames.give(ram, frame);
+        memory.ram.frames_are_whole();
+        let (frame, low) = self.unmap_page(memory, n, low);
+        memory.frames.give(&mut memory.ram, frame);
         low
     }
 
     // Gives back the pages from `to` on.
-    fn drop_pages(&self, ram: &mut Ram, frames: &mut Frames, from: u64, to: u64)
-        requires held { OwnsFrames ram.old self.now.root.0 self.now.trap.0 from frames.old }
+    fn drop_pages(&self, memory: &mut Memory, from: u64, to: u64)
+        requires held { HasPages memory.old self.now from }
         requires order { to ≤ from }
-        ensures held { OwnsFrames ram.new self.now.root.0 self.now.trap.0 to frames.new }
-        ensures pages { first_pages ram.new self.now to ≡ first_pages ram.old self.now to }
-        ensures mapping { SameLeaves ram.old ram.new self.now.root.0 to }
-        ensures trap { frame_of ram.new self.now.trap.0 ≡ frame_of ram.old self.now.trap.0 }
-        ensures trades { Trades ram.old ram.new frames.old frames.new (held_by ram.old self.now from)
-            (held_by ram.new self.now to) }
+        ensures { DropsPages memory.old memory.new self.now from to }
     {
         let mut low = None;
         for i in 0..from - to {
-            low = self.drop_page(ram, frames, from - 1 - i, low);
+            low = self.drop_page(memory, from - 1 - i, low);
         }
     }
 
     /// Takes away the last `bytes` bytes, and gives back the pages and tables that no byte needs then.
-    pub fn shrink(&mut self, ram: &mut Ram, frames: &mut Frames, bytes: u64)
-        requires space { IsSpace ram.old self.old frames.old }
+    pub fn shrink(&mut self, memory: &mut Memory, bytes: u64)
+        requires space { IsSpace memory.old self.old }
         requires less { bytes ≤ self.old.size }
-        ensures space { IsSpace ram.new self.new frames.new }
-        ensures size { self.new.size + bytes ≡ self.old.size }
-        ensures pages { pages_of ram.new self.new
-            ≡ take (pages_in (self.old.size - bytes)) (pages_of ram.old self.old) }
-        ensures mapping { mapping_of ram.new self.new
-            ≡ take (pages_in (self.old.size - bytes)) (mapping_of ram.old self.old) }
-        ensures entries { entries_of ram.new self.new
-            ≡ take (pages_in (self.old.size - bytes)) (entries_of ram.old self.old) }
-        ensures opens { StaysOpen ram.old ram.new self.old self.new }
-        ensures root { self.new.root ≡ self.old.root }
-        ensures registers { registers_of ram.new self.new ≡ registers_of ram.old self.old }
-        ensures trades { Trades ram.old ram.new frames.old frames.new (holds ram.old self.old)
-            (holds ram.new self.new) }
+        ensures { Shrinks memory.old memory.new self.old self.new bytes }
     {
         let size = self.size - bytes;
-        self.drop_pages(ram, frames, pages_in(self.size), pages_in(size));
+        self.drop_pages(memory, pages_in(self.size), pages_in(size));
         self.size = size;
     }
 
     /// Gives back all frames of the space: pages, tables and trap frame.
-    pub fn destroy(self, ram: &mut Ram, frames: &mut Frames)
-        requires { IsSpace ram.old self frames.old }
-        ensures valid { IsFreeList ram.new frames.new }
-        ensures trades { Trades ram.old ram.new frames.old frames.new (holds ram.old self) [] }
+    pub fn destroy(self, memory: &mut Memory)
+        requires { IsSpace memory.old self }
+        ensures valid { IsFreeList memory.new }
+        ensures trades { Trades memory.old memory.new (holds memory.old.ram self) [] }
     {
-        ram.frames_are_whole();
-        self.drop_pages(ram, frames, pages_in(self.size), 0);
+        memory.ram.frames_are_whole();
+        self.drop_pages(memory, pages_in(self.size), 0);
         let table = PageTable { root: self.root };
-        let trap = table.unmap_last(ram, frames, TRAP_PAGE);
-        frames.give(ram, trap);
-        table.destroy(ram, frames);
+        let trap = table.unmap_last(memory, TRAP_PAGE);
+        memory.frames.give(&mut memory.ram, trap);
+        table.destroy(memory);
     }
 }

@@ -3,12 +3,12 @@ use Rattle.pagetable.proofs.TreeLemmas.{free-first, free-link, Links-put}
 use Rattle.pagetable.proofs.link.Goals as goal
 
 pub zero-requires : goal.zero-requires
-zero-requires c = (free-first c.requires.valid c.unwrap-fresh.result.0 (free_of c.args.ram.now c.take.new.self)
+zero-requires c = (free-first c.requires.valid c.unwrap-fresh.result.0 (free_of c.args.memory.now.ram c.take.new.self)
     (rw c.unwrap-fresh.ensures at c.take.ensures.some)).0
 
 pub returns : goal.returns
 returns c =
-    let m = c.args.ram.now in
+    let m = c.args.memory.now.ram in
     let some = rw c.unwrap-fresh.ensures at c.take.ensures.some in
     let t = c.args.table.0 in
     let u = c.unwrap-fresh.result.0 in

@@ -7,5 +7,5 @@ unwrap-low-requires c = some-unless_none _ (λ none. c.requires.mapped
     (lookup_of-low _ _ c.args.page (rw none at c.low_table.ensures)))
 
 pub returns-clause-tidy : goal.returns-clause-tidy
-returns-clause-tidy c = λ is. IsTidy-insert c.set_leaf.new.ram is c.requires.page c.set_leaf.ensures.inserts
-    (λ x nx _ _. c.set_leaf.ensures.tables x nx)
+returns-clause-tidy c = λ is. IsTidy-insert c.set_leaf.new.memory.ram is c.requires.page c.set_leaf.ensures.maps
+    (λ x nx _ _. c.set_leaf.ensures.rewrites.tables x nx)

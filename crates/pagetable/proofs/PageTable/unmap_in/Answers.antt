@@ -1,6 +1,6 @@
 use Rattle.pagetable.proofs.Common.{ap, arith, inl, inr, low_node, refl, sym, ℕ, ◌-◌, ◌∙◌}
 use Rattle.pagetable.proofs.ShapeLemmas.{Adds-none, IsTidy-remove, used-before}
-use Rattle.pagetable.proofs.TreeLemmas.{low_is_node, lookup_of-low, some-unless_none, tree-leaf_sound}
+use Rattle.pagetable.proofs.TreeLemmas.{low_is_node, lookup_of-low, rewrites-changes, some-unless_none, tree-leaf_sound}
 use Rattle.std.specs.Option.{option_map}
 use Rattle.pagetable.proofs.PageTable.unmap_in.Goals as goal
 
@@ -18,21 +18,22 @@ unwrap-requires c = some-unless_none _ (λ none. c.requires.mapped
 pub returns : goal.returns
 returns c =
     let page = c.args.page in
-    let clear = c.clear_leaf.ensures in
-    let drops = Adds-none c.clear_leaf.new.ram c.args.ram.now c.args.self.now.root.0 page c.args.frames.now
+    let removes = c.clear_leaf.ensures.removes in
+    let clear = c.clear_leaf.ensures.rewrites in
+    let drops = Adds-none c.clear_leaf.new.memory.ram c.args.memory.now.ram c.args.self.now.root.0 page _ _
     (clear.tables (low_node page) (low_is_node page) ∙ c.requires.low) (λ x nx. sym (clear.tables x nx))
     (sym clear.free) in
-    let in_use = used-before c.clear_leaf.new.ram c.args.self.now.root.0 page c.requires.page c.requires.inner
-    (λ none. c.requires.before (sym (clear.removes.others (page - 1) (omega (arith, c.requires.page))
+    let in_use = used-before c.clear_leaf.new.memory.ram c.args.self.now.root.0 page c.requires.page c.requires.inner
+    (λ none. c.requires.before (sym (removes.others (page - 1) (omega (arith, c.requires.page))
     (omega (arith, c.requires.inner))) ∙ none)) in
     record {
-      was = ap (option_map (λ (x : ℕ × ℕ). x.0)) (lookup_of-low _ _ page (sym c.requires.low)
-          ∙ sym (rw c.unwrap.ensures at c.leaf.ensures));
-      removes = clear.removes;
-      drops = drops;
-      tables = clear.tables;
-      tidy = IsTidy-remove c.requires.tidy clear.removes drops (λ _ _. in_use _ (inl refl))
-          (λ _ _. in_use _ (inr refl));
-      paged = clear.paged;
-      keeps = clear.keeps;
+      unmaps = record {
+        was = ap (option_map (λ (x : ℕ × ℕ). x.0)) (lookup_of-low _ _ page (sym c.requires.low)
+            ∙ sym (rw c.unwrap.ensures at c.leaf.ensures));
+        removes = removes;
+        drops = drops;
+        tidy = IsTidy-remove c.requires.tidy removes drops (λ _ _. in_use _ (inl refl)) (λ _ _. in_use _ (inr refl));
+        changes = rewrites-changes clear;
+      };
+      rewrites = clear;
     }

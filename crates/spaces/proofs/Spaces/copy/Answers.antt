@@ -13,10 +13,10 @@ copy-requires g c = c.self.invariant.machine.each c.args.from c.space_at-space.r
 
 made : (g : given.Over) (c : After-fence_active g)
     → Shows g.T.Translate.held c.self.inside
-    (set_in c.self.inside c.copy.new.ram c.copy.new.frames c.fence_active.new.translator c.deref_mut.result.now
-    c.args.to (Some c.in-Ok.space)) (copied (spaces_of c.self.inside) c.args.from c.args.to)
+    (set_in c.self.inside c.copy.new.memory c.fence_active.new.translator c.deref_mut.result.now c.args.to
+    (Some c.in-Ok.space)) (copied (spaces_of c.self.inside) c.args.from c.args.to)
 made g c =
-    let there = c.in-Ok.ensures in
+    let there = c.in-Ok.ensures.copies in
     shared-there c.self.invariant c.args.from c.args.to c.space_at-space.result.now c.in-Ok.space
     c.fence_active.new.translator c.requires.inside (rw (← c.self.view_is) at c.requires.free)
     c.deref_mut.ensures.value c.space_at-space.ensures
@@ -37,5 +37,5 @@ returns-in-Err-clause-refused g c =
     rw (← c.self.view_is) (
       over-forked c.self.invariant c.args.from c.args.to c.space_at-space.result.now c.space_at-space.ensures
           c.requires.inside (rw (← c.self.view_is) at c.requires.free) (c.in-Err.ensures.full.0 c.in-Err.ensures.only),
-      ap (λ m. spaces_of (record i { ram = m })) c.in-Err.ensures.unchanged.0,
+      ap (λ m. spaces_of (record i { memory = m })) c.in-Err.ensures.unchanged,
     )

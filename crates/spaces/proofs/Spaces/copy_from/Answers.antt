@@ -1,14 +1,18 @@
 use Rattle.spaces.proofs.Spaces.copy_from.Goals as goal
 use Rattle.spaces.proofs.Traded.{parts-sound}
-use Rattle.std.proofs.Common.{refl}
+use Rattle.std.proofs.Common.{refl, sym, ◌∙◌}
 
 pub copy_from-requires : goal.copy_from-requires
-copy_from-requires g c = rw (← c.self.view_is, ← c.source.view_is) at c.requires
+copy_from-requires g c =
+    let count = rw (← c.self.view_is, ← c.source.view_is) at c.requires in
+    record {
+      ram = count;
+      counts = c.self.invariant.machine.free.size ∙ count ∙ sym c.source.invariant.machine.free.size;
+    }
 
 pub invariant_of-self : goal.invariant_of-self
 invariant_of-self g c = parts-sound g.U.Translate.held g.T.Translate.held c.source.inside _ record {
-  ram = c.copy_from.ensures;
-  frames = c.copy_from-2.ensures;
+  memory = c.copy_from.ensures;
   places = c.duplicate_places-self-inside.ensures;
   hart = c.duplicate-self-inside.ensures;
   active = refl;

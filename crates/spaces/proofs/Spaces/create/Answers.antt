@@ -6,11 +6,11 @@ use Rattle.spaces.proofs.Common.{no_pages, spaces_of, Some, ap}
 
 made : (g : given.Over) (c : After-deref_mut g)
     → Placed g.T.Translate.held c.self.inside
-    (set_in c.self.inside c.new.new.ram c.new.new.frames c.self.inside.translator c.deref_mut.result.now c.args.at
+    (set_in c.self.inside c.new.new.memory c.self.inside.translator c.deref_mut.result.now c.args.at
     (Some c.in-Ok.space)) c.args.at (Some no_pages)
 made g c = settled-there c.self.invariant c.args.at c.in-Ok.space c.requires.inside
-    (rw (← c.self.view_is) at c.requires.free) c.deref_mut.ensures.value c.in-Ok.ensures.space c.in-Ok.ensures.trades
-    c.in-Ok.ensures.size
+    (rw (← c.self.view_is) at c.requires.free) c.deref_mut.ensures.value c.in-Ok.ensures.made.space
+    c.in-Ok.ensures.made.trades c.in-Ok.ensures.made.size
 
 pub invariant_of-self : goal.invariant_of-self
 invariant_of-self g c = (made g (goal.at.invariant_of-self g c).After-deref_mut).sound
@@ -24,4 +24,4 @@ pub returns-in-Err-clause-refused : goal.returns-in-Err-clause-refused
 returns-in-Err-clause-refused g c =
     let less = over-free c.self.invariant c.args.at (Some no_pages) c.requires.inside
     (rw (← c.self.view_is) at c.requires.free) (c.in-Err.ensures.full.0 c.in-Err.ensures.only) in
-    rw (← c.self.view_is) (less, ap (λ m. spaces_of (record c.self.inside { ram = m })) c.in-Err.ensures.unchanged.0)
+    rw (← c.self.view_is) (less, ap (λ m. spaces_of (record c.self.inside { memory = m })) c.in-Err.ensures.unchanged)

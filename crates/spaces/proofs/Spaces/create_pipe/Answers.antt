@@ -1,3 +1,4 @@
+use Rattle.spaces.proofs.Traded.{with_holders}
 use Rattle.spaces.proofs.Spaces.create_pipe.Given as given
 use Rattle.spaces.proofs.Spaces.create_pipe.Goals as goal
 use Rattle.spaces.proofs.Spaces.create_pipe.Goals.{After-deref_mut}
@@ -6,7 +7,8 @@ use Rattle.spaces.proofs.Common.{Some, [], spaces_of, ap, refl}
 
 made : (g : given.Over) (c : After-deref_mut g)
     → Piped g.T.Translate.held c.self.inside
-    (set_pipe c.self.inside c.self.inside.ram c.take.new.self c.deref_mut.result.now c.args.q (Some c.new.result))
+    (set_pipe c.self.inside c.self.inside.memory.ram c.take.new.self c.deref_mut.result.now c.args.q
+    (Some c.new.result))
     c.args.q (Some [])
 made g c =
     let made = c.new.ensures in
@@ -14,7 +16,7 @@ made g c =
     (rw (← c.self.view_is) at c.requires.free) c.deref_mut.ensures.value c.in-Some.ensures.valid
     (rw made.frame c.in-Some.ensures.some) c.in-Some.ensures.extra
     (record { read = made.read; write = made.write }))
-    (ap Some (made.empty c.self.inside.ram))
+    (ap Some (made.empty c.self.inside.memory.ram))
 
 pub invariant_of-self : goal.invariant_of-self
 invariant_of-self g c = (made g (goal.at.invariant_of-self g c).After-deref_mut).sound
@@ -30,5 +32,5 @@ returns-in-None-clause-refused g c =
     rw (← c.self.view_is) (
       over-free c.self.invariant c.args.q c.requires.inside
           (rw (← c.self.view_is) at c.requires.free) (full.none.0 refl),
-      ap (λ n. spaces_of (record c.self.inside { frames = n })) full.unchanged,
+      ap (λ n. spaces_of (record c.self.inside { memory = with_holders c.self.inside.memory.ram n })) full.unchanged,
     )

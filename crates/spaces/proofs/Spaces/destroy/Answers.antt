@@ -11,7 +11,7 @@ destroy-requires g c = c.self.invariant.machine.each c.args.at c.unwrap-space.re
 
 gone : (g : given.Over) (c : After-destroy g)
     → Placed g.T.Translate.held c.self.inside
-    (set_in c.self.inside c.destroy.new.ram c.destroy.new.frames c.self.inside.translator c.deref_mut.result.now
+    (set_in c.self.inside c.destroy.new.memory c.self.inside.translator c.deref_mut.result.now
     c.args.at c.take.new.self) c.args.at None
 gone g c =
     destroyed c.self.invariant c.args.at c.unwrap-space.result

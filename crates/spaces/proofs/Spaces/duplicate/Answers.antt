@@ -4,10 +4,9 @@ use Rattle.std.proofs.Common.{refl}
 
 pub invariant_of-result : goal.invariant_of-result
 invariant_of-result g c = parts-sound g.T.Translate.held g.U.Translate.held c.self.inside _ record {
-  ram = c.in_ok-ram.ensures;
-  frames = c.in_ok-frames.ensures;
+  memory = c.in_ok-memory.ensures;
   places = c.duplicate_places.ensures;
-  hart = c.duplicate-3.ensures;
+  hart = c.duplicate-2.ensures;
   active = refl;
   pipes = c.duplicate_pipes.ensures;
   fenced = c.fence.ensures;

@@ -19,15 +19,14 @@ run g c = run-at c.space_at-space.result.now c.self.invariant c.in-Some.is c.spa
 reopen : (g : given.Over) (c : After-fence g)
     → Reopened g.T.Translate.held c.self.inside
     (record c.self.inside {
-      ram = c.open_page.new.ram;
-      frames = c.open_page.new.frames;
+      memory = c.open_page.new.memory;
       translator = c.fence.new.self;
       hart = c.step.new.self;
     }) c.in-Some.at c.space_at-space.result.now
 reopen g c =
     let at = goal.at.After-fence g c in
     reopened (run g at.After-space_at-space) (steps g at.After-step) c.fence.new.self _ _ c.in-Some-step.trap
-    c.in-Some-step.is c.open_page.ensures.same c.fence.ensures
+    c.in-Some-step.is c.open_page.ensures.opens.same c.fence.ensures
 
 pub invariant_of-self : goal.invariant_of-self
 invariant_of-self g c = sound-stepped (run-of c.self.invariant c.in-Some.is).1
@@ -71,7 +70,7 @@ returns g c =
     let at = goal.at.returns g c in
     let x = c.space_at-space.result.now in
     let found = c.in-Some-closed_page.ensures.some in
-    let made = ap (marks_at c.open_page.new.ram x.root.0) (sym found.1) ∙ c.open_page.ensures.marks in
+    let made = ap (marks_at c.open_page.new.memory.ram x.root.0) (sym found.1) ∙ c.open_page.ensures.opens.marks in
     let e = c.step_again.ensures in
     let whole = c.frames_are_whole-2.ensures in
     let both = second c.in-Some-step.trap (right_marks (marks_at c.step.new.ram x.root.0 c.in-Some-closed_page.page))

@@ -13,20 +13,20 @@ fill-requires g c =
     let e = c.space_at-space.ensures in
     record {
       space = c.self.invariant.machine.each c.args.at x e;
-      inside = rw (← c.self.view_is, held-is c.self.inside _ e, length-pages_of c.self.inside.ram x)
+      inside = rw (← c.self.view_is, held-is c.self.inside _ e, length-pages_of c.self.inside.memory.ram x)
           at c.requires.inside;
     }
 
 filled : (g : given.Over) (c : goal.After-fence_active g)
     → Placed g.T.Translate.held c.self.inside
     (record c.self.inside {
-      ram = c.fill.new.ram;
-      frames = c.fill.new.frames;
+      memory = c.fill.new.memory;
       translator = c.fence_active.new.translator;
     }) c.args.at
-    (Some (view_with (write_bytes (pages_of c.self.inside.ram c.space_at-space.result.now) c.args.address
+    (Some (view_with (write_bytes (pages_of c.self.inside.memory.ram c.space_at-space.result.now) c.args.address
     c.args.bytes.now) c.space_at-space.result.now.size))
-filled g c = reframed-showing c.self.invariant c.args.at c.space_at-space.result.now c.fill.new.ram c.fill.new.frames
+filled g c = reframed-showing c.self.invariant c.args.at c.space_at-space.result.now c.fill.new.memory.ram
+    c.fill.new.memory.frames
     c.fence_active.new.translator _ c.space_at-space.ensures c.fill.ensures.frames c.fence_active.ensures.fewer
     c.fence_active.ensures.fenced c.fill.ensures.written
 

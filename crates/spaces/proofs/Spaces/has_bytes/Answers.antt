@@ -10,6 +10,6 @@ pub returns : goal.returns
 returns g c =
     let p = c.pipe_at-pipe.result.now in
     rw (← c.self.view_is, pipe-is c.self.inside _ c.pipe_at-pipe.ensures)
-    (c.can_read.ensures c.self.inside.ram
-    ∙ or-open (not (is_empty (bytes_of c.self.inside.ram p))) p.write_open
+    (c.can_read.ensures c.self.inside.memory.ram
+    ∙ or-open (not (is_empty (bytes_of c.self.inside.memory.ram p))) p.write_open
     (c.self.invariant.both c.args.q p c.pipe_at-pipe.ensures).write)

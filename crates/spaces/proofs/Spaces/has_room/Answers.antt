@@ -9,10 +9,11 @@ pub returns-clause-room : goal.returns-clause-room
 returns-clause-room g c =
     let p = c.pipe_at-pipe.result.now in
     rw (← c.self.view_is, pipe-is c.self.inside _ c.pipe_at-pipe.ensures)
-    (c.can_write.ensures.can c.self.inside.ram
-    ∙ or-open (nat_lt (length (bytes_of c.self.inside.ram p)) 512) p.read_open
+    (c.can_write.ensures.can c.self.inside.memory.ram
+    ∙ or-open (nat_lt (length (bytes_of c.self.inside.memory.ram p)) 512) p.read_open
     (c.self.invariant.both c.args.q p c.pipe_at-pipe.ensures).read)
 
 pub returns-clause-few : goal.returns-clause-few
 returns-clause-few g c =
-    rw (← c.self.view_is, pipe-is c.self.inside _ c.pipe_at-pipe.ensures) (c.can_write.ensures.within c.self.inside.ram)
+    rw (← c.self.view_is, pipe-is c.self.inside _ c.pipe_at-pipe.ensures)
+    (c.can_write.ensures.within c.self.inside.memory.ram)

@@ -12,10 +12,12 @@ find_page-requires g c =
 pub returns-in_err-frame : goal.returns-in_err-frame
 returns-in_err-frame g c =
     rw (← c.self.view_is, held-is c.self.inside _ c.space_at-space.ensures, c.from_residual.ensures)
-    (sym (unmapped-page c.self.inside.ram (mapping_of c.self.inside.ram c.space_at-space.result.now) c.args.n
+    (sym (unmapped-page c.self.inside.memory.ram (mapping_of c.self.inside.memory.ram c.space_at-space.result.now)
+    c.args.n
     c.in_err-frame.ensures.found))
 
 pub returns : goal.returns
 returns g c = rw (← c.self.view_is, held-is c.self.inside _ c.space_at-space.ensures, c.frame.ensures)
-    (sym (mapped-page c.self.inside.ram (mapping_of c.self.inside.ram c.space_at-space.result.now) c.args.n
+    (sym (mapped-page c.self.inside.memory.ram (mapping_of c.self.inside.memory.ram c.space_at-space.result.now)
+    c.args.n
     (mapped_as c.in_ok-frame.frame.0 c.in_ok-frame.marks) c.in_ok-frame.ensures.found))

@@ -13,11 +13,11 @@ pub returns-in_err-frame : goal.returns-in_err-frame
 returns-in_err-frame g c =
     rw (← c.self.view_is, held-is c.self.inside _ c.space_at-space.ensures, c.from_residual.ensures)
     (sym (ap (option_map told_page)
-    (unmapped-page c.self.inside.ram (mapping_of c.self.inside.ram c.space_at-space.result.now) c.args.n
+    (unmapped-page c.self.inside.memory.ram (mapping_of c.self.inside.memory.ram c.space_at-space.result.now) c.args.n
     c.in_err-frame.ensures.found)))
 
 pub returns : goal.returns
 returns g c = rw (← c.self.view_is, held-is c.self.inside _ c.space_at-space.ensures, c.frame.ensures)
     (sym (ap (option_map told_page)
-    (mapped-page c.self.inside.ram (mapping_of c.self.inside.ram c.space_at-space.result.now) c.args.n
+    (mapped-page c.self.inside.memory.ram (mapping_of c.self.inside.memory.ram c.space_at-space.result.now) c.args.n
     (mapped_as c.in_ok-frame.frame.0 c.in_ok-frame.marks) c.in_ok-frame.ensures.found)))

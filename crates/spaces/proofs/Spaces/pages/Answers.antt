@@ -14,13 +14,13 @@ pub returns-clause-count : goal.returns-clause-count
 returns-clause-count g c =
     rw (← c.self.view_is, held-is c.self.inside _ c.space_at-space.ensures)
     (c.pages_in.ensures ∙ ap pages_in c.size.ensures
-    ∙ sym (length-pages_of c.self.inside.ram c.space_at-space.result.now))
+    ∙ sym (length-pages_of c.self.inside.memory.ram c.space_at-space.result.now))
 
 pub returns-clause-few : goal.returns-clause-few
 returns-clause-few g c =
     rw (
       ← c.self.view_is,
       held-is c.self.inside _ c.space_at-space.ensures,
-      length-pages_of c.self.inside.ram c.space_at-space.result.now,
+      length-pages_of c.self.inside.memory.ram c.space_at-space.result.now,
     )
     ((c.self.invariant.machine.each c.args.at c.space_at-space.result.now c.space_at-space.ensures).dense.small)

@@ -9,9 +9,9 @@ bytes-requires g c = (pipe-frame c.self.invariant c.args.q c.in-Some.pipe.now (s
 pub returns-in-Some : goal.returns-in-Some
 returns-in-Some g c =
     let i = c.self.inside in
-    rw (← c.self.view_is, pipe-slot i.ram i.pipes.items c.args.q, ← c.in-Some.ensures) (ap Some c.bytes.ensures)
+    rw (← c.self.view_is, pipe-slot i.memory.ram i.pipes.items c.args.q, ← c.in-Some.ensures) (ap Some c.bytes.ensures)
 
 pub returns-in-None : goal.returns-in-None
 returns-in-None g c =
     let i = c.self.inside in
-    rw (← c.self.view_is, pipe-slot i.ram i.pipes.items c.args.q, ← c.in-None.ensures) refl
+    rw (← c.self.view_is, pipe-slot i.memory.ram i.pipes.items c.args.q, ← c.in-None.ensures) refl

@@ -15,7 +15,7 @@ put_in-requires g c =
 
 wrote : (g : given.Over) (c : After-put_in g)
     → Piped g.T.Translate.held c.self.inside
-    (set_pipe c.self.inside c.put_in.new.ram c.self.inside.frames c.deref_mut.result.now c.args.q
+    (set_pipe c.self.inside c.put_in.new.ram c.self.inside.memory.frames c.deref_mut.result.now c.args.q
     (Some c.put_in.new.pipe)) c.args.q (Some (bytes_of c.put_in.new.ram c.put_in.new.pipe))
 wrote g c =
     let e = pipe-found c.self.inside c.args.q _ (rw (← c.self.view_is) at c.requires) c.deref_mut.ensures.value

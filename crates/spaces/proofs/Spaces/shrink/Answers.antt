@@ -14,10 +14,10 @@ shrink-requires-clause-space g c =
 
 less : (g : given.Over) (c : After-fence_active g)
     → Placed g.T.Translate.held c.self.inside
-    (set_in c.self.inside c.shrink.new.ram c.shrink.new.frames c.fence_active.new.translator c.deref_mut.result.now
-    c.args.at (Some c.shrink.new.self)) c.args.at
-    (Some (shrunk (view_with (pages_of c.self.inside.ram c.unwrap-space.result.now) c.unwrap-space.result.now.size)
-    c.args.bytes))
+    (set_in c.self.inside c.shrink.new.memory c.fence_active.new.translator c.deref_mut.result.now c.args.at
+    (Some c.shrink.new.self)) c.args.at
+    (Some (shrunk (view_with (pages_of c.self.inside.memory.ram c.unwrap-space.result.now)
+    c.unwrap-space.result.now.size) c.args.bytes))
 less g c =
     let x = c.unwrap-space.result.now in
     let z = c.shrink.new.self in
@@ -25,10 +25,11 @@ less g c =
     placed-as c.args.at (changed c.self.invariant c.args.at x z c.fence_active.new.translator
     (there c.args.at c.deref_mut.ensures.value (sym (rw c.unwrap-space.ensures at c.as_mut.ensures.value)))
     (refilled c.args.at c.deref_mut.ensures.value refl)
-    c.shrink.ensures.space c.shrink.ensures.trades c.shrink.ensures.root c.fence_active.ensures.fewer
+    c.shrink.ensures.resizes.space c.shrink.ensures.resizes.trades c.shrink.ensures.resizes.root
+    c.fence_active.ensures.fewer
     (λ a was. coherent-nothing (g.T.Translate.held c.fence_active.new.translator) x.root.0
-    (entries_of c.shrink.new.ram z) (c.fence_active.ensures.fenced a)))
-    (shown-as c.shrink.new.ram z (take (pages_in (x.size - c.args.bytes)) (pages_of c.self.inside.ram x))
+    (entries_of c.shrink.new.memory.ram z) (c.fence_active.ensures.fenced a)))
+    (shown-as c.shrink.new.memory.ram z (take (pages_in (x.size - c.args.bytes)) (pages_of c.self.inside.memory.ram x))
     (x.size - c.args.bytes) c.shrink.ensures.pages size)
 
 pub invariant_of-self : goal.invariant_of-self

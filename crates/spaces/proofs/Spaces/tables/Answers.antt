@@ -15,6 +15,6 @@ returns g c =
     let i = c.self.inside in
     let x = c.space_at-space.result.now in
     rw (← c.self.view_is, held-is i _ c.space_at-space.ensures)
-    (shows-right i.ram c.root_of.result.0 (let_through i.ram x) (pages_of i.ram x)
-    (seen-right i.ram x.root.0 (pages_in x.size)
+    (shows-right i.memory.ram c.root_of.result.0 (let_through i.memory.ram x) (pages_of i.memory.ram x)
+    (seen-right i.memory.ram x.root.0 (pages_in x.size)
     (c.self.invariant.machine.each c.args.at x c.space_at-space.ensures).dense.leaves) c.root_of.ensures)

@@ -15,13 +15,13 @@ take_out-requires g c =
 
 left : (g : given.Over) (c : After-take_out g)
     → Piped g.T.Translate.held c.self.inside
-    (set_pipe c.self.inside c.self.inside.ram c.self.inside.frames c.deref_mut.result.now c.args.q
-    (Some c.take_out.new.pipe)) c.args.q (Some (bytes_of c.self.inside.ram c.take_out.new.pipe))
+    (set_pipe c.self.inside c.self.inside.memory.ram c.self.inside.memory.frames c.deref_mut.result.now c.args.q
+    (Some c.take_out.new.pipe)) c.args.q (Some (bytes_of c.self.inside.memory.ram c.take_out.new.pipe))
 left g c =
     let e = pipe-found c.self.inside c.args.q _ (rw (← c.self.view_is) at c.requires) c.deref_mut.ensures.value
     (sym (rw c.unwrap-pipe.ensures at c.as_mut.ensures.value)) in
     piped-written c.self.invariant c.args.q c.unwrap-pipe.result.now c.take_out.new.pipe _ e c.deref_mut.ensures.value
-    c.take_out.ensures.stays (sym (set-get_or c.self.inside.ram c.unwrap-pipe.result.now.frame []))
+    c.take_out.ensures.stays (sym (set-get_or c.self.inside.memory.ram c.unwrap-pipe.result.now.frame []))
 
 pub invariant_of-self : goal.invariant_of-self
 invariant_of-self g c = (left g (goal.at.invariant_of-self g c).After-take_out).sound

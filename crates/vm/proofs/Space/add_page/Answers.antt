@@ -5,15 +5,14 @@ use Rattle.vm.proofs.Tables.{for-same}
 use Rattle.vm.proofs.Space.add_page.Goals as goal
 use Rattle.vm.proofs.Space.add_page.Goals.{After-zero}
 
-taken : (c : After-zero) → IsTaken c.args.ram.now c.zero.new.self c.args.frames.now c.take.new.self
+taken : (c : After-zero) → IsTaken c.args.memory.now.ram c.zero.new.self c.args.memory.now.frames c.take.new.self
     c.unwrap-frame.result.0
 taken c = IsTaken-set _ _ _ _ _ (replicate 4096 0) (rw c.unwrap-frame.ensures at c.take.ensures.some)
     c.take.ensures.valid c.zero.ensures c.take.ensures.extra
 
 before : (c : After-zero)
     → IsBefore c.zero.new.self c.args.self.now.root.0 c.args.self.now.trap.0 c.args.n c.unwrap-frame.result.0
-    c.args.marks.0
-    c.take.new.self
+    c.args.marks.0 c.take.new.self
 before c = taken-before c.requires.held (taken c) _ c.requires.small
 
 pub zero-requires : goal.zero-requires
@@ -43,30 +42,30 @@ map_page-requires-clause-low c = λ inner. for-same _ _ _ c.args.n c.args.low
 pub returns : goal.returns
 returns c =
     let z = (goal.at.returns c).After-zero in
-    let mapped = c.map_page.ensures in
+    let mapped = c.map_page.ensures.mapped in
     let inside = (free-first c.requires.held.free c.unwrap-frame.result.0 _
     (rw c.unwrap-frame.ensures at c.take.ensures.some)).0 in
-    let g = taken-grown c.requires.held (taken z) c.map_page.new.ram c.requires.small
+    let g = taken-grown c.requires.held (taken z) c.map_page.new.memory.ram c.requires.small
     (ap (λ m. frame_of m c.unwrap-frame.result.0) c.zero.ensures
-    ∙ get_or-set_same c.args.ram.now c.unwrap-frame.result.0 (replicate 4096 0) _ inside)
+    ∙ get_or-set_same c.args.memory.now.ram c.unwrap-frame.result.0 (replicate 4096 0) _ inside)
     (record {
       leaf = c.requires.user;
-      inserts = mapped.mapped;
+      inserts = mapped.maps;
       adds = mapped.adds;
-      tidy = mapped.tidy;
-      paged = mapped.paged;
-      keeps =
-          mapped.keeps;
-      extra = mapped.extra;
+      tidy = mapped.tidy (before z).space.dense.tidy;
+      paged = mapped.changes.paged;
+      keeps = mapped.changes.keeps;
+      extra = mapped.changes.extra;
     }) in
     record {
-      low = mapped.low;
-      held = g.space;
-      pages = g.pages;
-      mapping = g.mapping;
-      marks = marks_at-is c.map_page.new.ram _ _ mapped.mapped.changed;
-      trap = g.trap;
-      trades = g.trades;
-      room =
-          g.room;
+      low = c.map_page.ensures.low;
+      adds = record {
+        held = g.space;
+        pages = g.pages;
+        mapping = g.mapping;
+        marks = marks_at-is c.map_page.new.memory.ram _ _ mapped.maps.changed;
+        registers = g.trap;
+        trades = g.trades;
+        room = g.room;
+      };
     }

@@ -5,23 +5,24 @@ use Rattle.vm.proofs.Space.drop_page.Goals as goal
 use Rattle.vm.proofs.Space.drop_page.Goals.{After-unmap_page-low}
 
 one_more : (c : After-unmap_page-low)
-    → OwnsFrames c.args.ram.now c.args.self.now.root.0 c.args.self.now.trap.0 (suc c.args.n) c.args.frames.now
+    → OwnsFrames c.args.memory.now.ram c.args.self.now.root.0 c.args.self.now.trap.0 (suc c.args.n)
+    c.args.memory.now.frames
 one_more c = rw (← add-one c.args.n) c.requires.held
 
 unmapped : (c : After-unmap_page-low)
-    → IsUnmapped c.args.ram.now c.unmap_page-low.new.ram c.args.self.now.root.0 c.args.n c.unmap_page-low.result.0.0
-    c.args.frames.now c.unmap_page-low.new.frames
+    → IsUnmapped c.args.memory.now.ram c.unmap_page-low.new.memory.ram c.args.self.now.root.0 c.args.n
+    c.unmap_page-low.result.0.0 c.args.memory.now.frames c.unmap_page-low.new.memory.frames
 unmapped c =
-    let e = c.unmap_page-low.ensures in
+    let e = c.unmap_page-low.ensures.unmaps in
     let was = unmapped-was _ c.args.self.now.root.0 c.args.n ((one_more c).dense.pages c.args.n (omega arith)) e.was in
     record {
       was = was;
       removes = e.removes;
       drops = e.drops;
       tidy = e.tidy;
-      paged = e.paged;
-      keeps = e.keeps;
-      extra = e.extra;
+      paged = e.changes.paged;
+      keeps = e.changes.keeps;
+      extra = e.changes.extra;
     }
 
 pub give-requires : goal.give-requires
@@ -38,9 +39,11 @@ returns c =
     (record { valid = e.valid; holders = e.holders; others = e.others; stays = λ more. (e.stays more).1 }) in
     record {
       low = for-same _ _ _ _ c.unmap_page-low.result.1 d.nodes c.unmap_page-low.ensures.low;
-      held = d.space;
-      pages = d.pages;
-      mapping = d.mapping;
-      trap = d.trap;
-      trades = d.trades;
+      drops = record {
+        held = d.space;
+        pages = d.pages;
+        mapping = d.mapping;
+        registers = d.trap;
+        trades = d.trades;
+      };
     }

@@ -9,11 +9,12 @@ loop-done-init c =
     let start : c.args.address + 0 ≡ c.args.address = omega arith in
     record {
       within = omega arith;
-      rest = ap (λ at. write_bytes (pages_of c.args.ram.now c.args.self.now) at c.args.bytes.now) start;
+      rest = ap (λ at. write_bytes (pages_of c.args.memory.now.ram c.args.self.now) at c.args.bytes.now) start;
       frames = record {
         space = c.requires.space;
         registers = refl;
-        trades = Trades-none c.args.ram.now c.args.frames.now (holds c.args.ram.now c.args.self.now);
+        trades = Trades-none c.args.memory.now.ram c.args.memory.now.frames
+            (holds c.args.memory.now.ram c.args.self.now);
       };
       opens = λ first h. h;
     }
@@ -41,8 +42,9 @@ loop-done-preserved c =
     let place : c.args.address + (d + n) ≡ c.args.address + d + n = omega arith in
     record {
       within = omega (arith, count, length-drop d bs);
-      rest = ap (λ at. write_bytes (pages_of c.write_page-done.new.ram c.args.self.now) at (drop (d + n) bs)) place
-          ∙ ap (write_bytes (pages_of c.write_page-done.new.ram c.args.self.now) (c.args.address + d + n))
+      rest = ap (λ at. write_bytes (pages_of c.write_page-done.new.memory.ram c.args.self.now) at (drop (d + n) bs))
+          place
+          ∙ ap (write_bytes (pages_of c.write_page-done.new.memory.ram c.args.self.now) (c.args.address + d + n))
           (sym (drop-drop n d bs))
           ∙ (rw left at e.rest) ∙ i.rest;
       frames = reframes-twice i.frames e.frames;
@@ -53,9 +55,9 @@ pub returns : goal.returns
 returns c =
     let i = c.loop-done.invariant in
     let none : drop c.loop-done.done c.args.bytes.now ≡ [] = drop_all c.loop-done.done c.args.bytes.now (omega arith) in
-    let write = write_bytes (pages_of c.loop-done.ram c.args.self.now) (c.args.address + c.loop-done.done) in
+    let write = write_bytes (pages_of c.loop-done.memory.ram c.args.self.now) (c.args.address + c.loop-done.done) in
     record {
-      written = sym (write-none (pages_of c.loop-done.ram c.args.self.now) (c.args.address + c.loop-done.done))
+      written = sym (write-none (pages_of c.loop-done.memory.ram c.args.self.now) (c.args.address + c.loop-done.done))
           ∙ ap write (sym none) ∙ i.rest;
       frames = i.frames;
       opens = i.opens;

@@ -1,7 +1,7 @@
 use Rattle.vm.proofs.Common.{◌≡◌, ℕ, take, ◌+◌, ◌-◌, [], ◌∷◌, ◌++◌, replicate, refl, sym, ap, ◌∙◌, true, arith}
 use Rattle.vm.proofs.Common.{append-nil, append_assoc, replicate_more, Trades-none, Trades-twice, held-count}
 use Rattle.vm.proofs.Common.{frames_for, held, page_with, pages_below, read_below, Perm, zero_page, entry_marks}
-use Rattle.vm.proofs.Common.{marks_from, right_marks, user_leaf, pages_in}
+use Rattle.vm.proofs.Common.{marks_from, right_marks, user_leaf, pages_in, StaysOpen}
 use Rattle.vm.proofs.DenseLemmas.{length-held}
 use Rattle.vm.proofs.PageLemmas.{leaf-user, leaf-valid, page-zero, open-fewer, open-more, take-mapping}
 use Rattle.vm.proofs.Space.grow.Goals as goal
@@ -14,18 +14,18 @@ loop-page-init c =
     let n = c.pages_in-from.result in
     record {
       space = rw same c.requires;
-      pages = rw none (sym (append-nil (pages_below c.args.ram.now c.args.self.now.root.0 n)));
+      pages = rw none (sym (append-nil (pages_below c.args.memory.now.ram c.args.self.now.root.0 n)));
       mapping = λ read. refl;
       opens = λ first h. h;
-      trap = refl;
-      trades = Trades-none c.args.ram.now c.args.frames.now
-          (held c.args.ram.now c.args.self.now.root.0 c.args.self.now.trap.0 n);
+      registers = refl;
+      trades = Trades-none c.args.memory.now.ram c.args.memory.now.frames
+          (held c.args.memory.now.ram c.args.self.now.root.0 c.args.self.now.trap.0 n);
       room = omega (
         arith,
         c.frames_for.ensures,
         c.frames_for-2.ensures,
         c.if-frames_for-from.false,
-        c.free.ensures c.args.ram.now,
+        c.free.ensures c.args.memory.now.ram,
       );
       small = omega (
         arith,
@@ -33,11 +33,11 @@ loop-page-init c =
         c.frames_for.ensures,
         c.frames_for-2.ensures,
         c.if-frames_for-from.false,
-        c.free.ensures c.args.ram.now,
+        c.free.ensures c.args.memory.now.ram,
         held-count c.requires.free
-            (held c.args.ram.now c.args.self.now.root.0 c.args.self.now.trap.0 (pages_in c.args.self.now.size))
+            (held c.args.memory.now.ram c.args.self.now.root.0 c.args.self.now.trap.0 (pages_in c.args.self.now.size))
             c.requires.held,
-        length-held c.args.ram.now c.args.self.now.root.0 c.args.self.now.trap.0
+        length-held c.args.memory.now.ram c.args.self.now.root.0 c.args.self.now.trap.0
             (pages_in c.args.self.now.size),
       );
       low = λ inner. tt;
@@ -56,6 +56,7 @@ add_page-low-requires-clause-user c =
 pub loop-page-preserved : goal.loop-page-preserved
 loop-page-preserved c =
     let i = c.loop-page.invariant in
+    let adds = c.add_page-low.ensures.adds in
     let from = c.pages_in-from.result in
     let p = c.loop-page.page in
     let zero = zero_page (marks_from c.args.perm) in
@@ -64,22 +65,22 @@ loop-page-preserved c =
     ∙ page-zero (marks_from c.args.perm) in
     let count : p + 1 - from ≡ p - from + 1 = omega arith in
     record {
-      space = c.add_page-low.ensures.held;
-      pages = c.add_page-low.ensures.pages
-          ∙ ap (λ x. pages_below c.loop-page.ram c.args.self.now.root.0 p ++ (x ∷ [])) made
+      space = adds.held;
+      pages = adds.pages
+          ∙ ap (λ x. pages_below c.loop-page.memory.ram c.args.self.now.root.0 p ++ (x ∷ [])) made
           ∙ ap (λ l. l ++ (zero ∷ [])) i.pages
-          ∙ append_assoc (pages_below c.args.ram.now c.args.self.now.root.0 from) (replicate (p - from) zero)
+          ∙ append_assoc (pages_below c.args.memory.now.ram c.args.self.now.root.0 from) (replicate (p - from) zero)
           (zero ∷ [])
-          ∙ ap (λ l. pages_below c.args.ram.now c.args.self.now.root.0 from ++ l)
+          ∙ ap (λ l. pages_below c.args.memory.now.ram c.args.self.now.root.0 from ++ l)
           (rw count (replicate_more (p - from) zero));
-      mapping = λ read. c.add_page-low.ensures.mapping read from (omega arith) ∙ i.mapping read;
-      opens = λ first h. open-more c.loop-page.ram c.add_page-low.new.ram c.args.self.now.root.0 p first
-          (marks_from c.args.perm) (λ read. c.add_page-low.ensures.mapping read p (omega arith))
-          (c.add_page-low.ensures.marks ∙ (c.leaf-leaf.ensures ∙ ap (λ (a : Perm). user_leaf a true) c.new.ensures))
+      mapping = λ read. adds.mapping read from (omega arith) ∙ i.mapping read;
+      opens = λ first h. open-more c.loop-page.memory.ram c.add_page-low.new.memory.ram c.args.self.now.root.0 p first
+          (marks_from c.args.perm) (λ read. adds.mapping read p (omega arith))
+          (adds.marks ∙ (c.leaf-leaf.ensures ∙ ap (λ (a : Perm). user_leaf a true) c.new.ensures))
           (i.opens first h);
-      trap = c.add_page-low.ensures.trap ∙ i.trap;
-      trades = Trades-twice i.trades c.add_page-low.ensures.trades;
-      room = omega (arith, i.room, c.add_page-low.ensures.room);
+      registers = adds.registers ∙ i.registers;
+      trades = Trades-twice i.trades adds.trades;
+      room = omega (arith, i.room, adds.room);
       small = i.small;
       low = c.add_page-low.ensures.low;
     }
@@ -87,21 +88,34 @@ loop-page-preserved c =
 -- the old pages are mapped as they were
 front : (c : After-loop-page) (read : ℕ → Perm)
     → take (pages_in c.args.self.now.size)
-    (read_below read c.loop-page.ram c.args.self.now.root.0 (pages_in (c.args.self.now.size + c.args.bytes)))
-    ≡ read_below read c.args.ram.now c.args.self.now.root.0 (pages_in c.args.self.now.size)
-front c read = take-mapping read c.loop-page.ram c.args.self.now.root.0 _ _ (omega arith)
+    (read_below read c.loop-page.memory.ram c.args.self.now.root.0 (pages_in (c.args.self.now.size + c.args.bytes)))
+    ≡ read_below read c.args.memory.now.ram c.args.self.now.root.0 (pages_in c.args.self.now.size)
+front c read = take-mapping read c.loop-page.memory.ram c.args.self.now.root.0 _ _ (omega arith)
     ∙ (rw c.pages_in-from.ensures at c.loop-page.invariant.mapping read)
 
-pub returns-clause-mapping : goal.returns-clause-mapping
-returns-clause-mapping c = front (goal.at.returns-clause-mapping c).After-loop-page right_marks
-
-pub returns-clause-entries : goal.returns-clause-entries
-returns-clause-entries c = front (goal.at.returns-clause-entries c).After-loop-page entry_marks
-
-pub returns-clause-opens : goal.returns-clause-opens
-returns-clause-opens c = λ first h.
+pub returns-clause-grows : goal.returns-clause-grows
+returns-clause-grows c =
+    let at = (goal.at.returns-clause-grows c).After-loop-page in
+    let i = c.loop-page.invariant in
     let r = c.args.self.now.root.0 in
-    let was = open-fewer c.args.ram.now r (pages_in c.args.self.now.size) c.pages_in-from.result first
-    (omega (arith, c.pages_in-from.ensures)) h in
-    open-fewer c.loop-page.ram r c.loop-page.page (pages_in (c.args.self.now.size + c.args.bytes)) first
-    (omega (arith, c.pages_in-to.ensures)) (c.loop-page.invariant.opens first was)
+    let from = c.pages_in-from.ensures in
+    let to : c.loop-page.page ≡ pages_in (c.args.self.now.size + c.args.bytes) = omega (arith, c.pages_in-to.ensures) in
+    let opens : StaysOpen c.args.memory.now.ram c.loop-page.memory.ram c.args.self.now
+    (record c.args.self.now { size = c.args.self.now.size + c.args.bytes }) = λ first h.
+    let was = open-fewer c.args.memory.now.ram r (pages_in c.args.self.now.size) c.pages_in-from.result first
+    (omega (arith, from)) h in
+    open-fewer c.loop-page.memory.ram r c.loop-page.page (pages_in (c.args.self.now.size + c.args.bytes)) first
+    (omega (arith, to)) (i.opens first was) in
+    record {
+      resizes = record {
+        space = rw to at i.space;
+        root = refl;
+        registers = i.registers;
+        opens = opens;
+        trades = rw (from, to) at i.trades;
+      };
+      size = refl;
+      pages = rw (from, to) at i.pages;
+      mapping = front at right_marks;
+      entries = front at entry_marks;
+    }

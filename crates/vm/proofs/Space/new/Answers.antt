@@ -6,14 +6,14 @@ use Rattle.vm.proofs.Space.new.Goals as goal
 use Rattle.vm.proofs.Space.new.Goals.{After-unwrap, After-zero}
 
 start : (c : After-zero)
-    → IsStart c.args.ram.now c.new.new.ram c.zero.new.self c.args.frames.now c.new.new.frames c.take.new.self
-    c.unwrap-table.result.root.0 c.unwrap-trap.result.0
+    → IsStart c.args.memory.now.ram c.new.new.memory.ram c.zero.new.self c.args.memory.now.frames
+    c.new.new.memory.frames c.take.new.self c.unwrap-table.result.root.0 c.unwrap-trap.result.0
 start c =
-    let e = rw c.unwrap-table.ensures at c.new.ensures in
+    let e = rw c.unwrap-table.ensures at c.new.ensures.some in
     let t = rw c.unwrap-trap.ensures at c.take.ensures in
     record {
       free = c.requires;
-      extra = e.extra;
+      extra = c.new.ensures.extra;
       first = e.taken;
       start = e.bytes;
       paged = e.paged;
@@ -21,25 +21,25 @@ start c =
       taken = IsTaken-set _ _ _ _ _ (replicate 4096 0) t.some t.valid c.zero.ensures t.extra;
     }
 
-made : (c : After-unwrap) → IsMade c.args.ram.now c.zero.new.self c.map.new.ram c.unwrap-table.result.root.0
-    c.unwrap-trap.result.0
-    c.args.frames.now c.map.new.frames
+made : (c : After-unwrap)
+    → IsMade c.args.memory.now.ram c.zero.new.self c.map.new.memory.ram c.unwrap-table.result.root.0
+    c.unwrap-trap.result.0 c.args.memory.now.frames c.map.new.memory.frames
 made c =
     let is = start (goal.at.After-unwrap c).After-zero in
-    let e = rw c.unwrap.ensures at c.map.ensures in
+    let e = rw c.unwrap.ensures at c.map.ensures.mapped in
     let tidy = e.tidy (IsTidy-empty (start-empty is)) in
     start-made is (record {
       leaf = refl;
-      inserts = e.mapped;
+      inserts = e.maps;
       adds = e.adds;
       tidy = tidy;
-      paged = e.paged;
-      keeps = e.keeps;
-      extra = e.extra;
+      paged = e.changes.paged;
+      keeps = e.changes.keeps;
+      extra = e.changes.extra;
     })
 
 pub zero-requires : goal.zero-requires
-zero-requires c = (free-first (rw c.unwrap-table.ensures at c.new.ensures.paged).free c.unwrap-trap.result.0 _
+zero-requires c = (free-first (rw c.unwrap-table.ensures at c.new.ensures.some).paged.free c.unwrap-trap.result.0 _
     (rw c.unwrap-trap.ensures at c.take.ensures.some)).0
 
 pub map-requires-clause-paged : goal.map-requires-clause-paged
@@ -50,7 +50,7 @@ map-requires-clause-frame c =
     omega (
       arith,
       (start (goal.at.map-requires-clause-frame c).After-zero).taken.count,
-      (free-first (rw c.unwrap-table.ensures at c.new.ensures.paged).free c.unwrap-trap.result.0 _
+      (free-first (rw c.unwrap-table.ensures at c.new.ensures.some).paged.free c.unwrap-trap.result.0 _
           (rw c.unwrap-trap.ensures at c.take.ensures.some)).0,
     )
 
@@ -59,22 +59,21 @@ unwrap-requires c =
     let s = start (goal.at.unwrap-requires c).After-zero in
     ok-unless_err _ (λ e err. omega (
       arith,
-      rw err at c.map.ensures.full,
+      (rw err at c.map.ensures.refused).0 refl,
       start-missing s,
       start-count s,
-      c.free.ensures c.args.ram.now,
+      c.free.ensures c.args.memory.now.ram,
     ))
 
-pub returns-clause-space : goal.returns-clause-space
-returns-clause-space c = (made (goal.at.returns-clause-space c).After-unwrap).space
-
-pub returns-clause-registers : goal.returns-clause-registers
-returns-clause-registers c =
-    let inside = (free-first (rw c.unwrap-table.ensures at c.new.ensures.paged).free c.unwrap-trap.result.0 _
+pub returns-clause-made : goal.returns-clause-made
+returns-clause-made c =
+    let all = made (goal.at.returns-clause-made c).After-unwrap in
+    let inside = (free-first (rw c.unwrap-table.ensures at c.new.ensures.some).paged.free c.unwrap-trap.result.0 _
     (rw c.unwrap-trap.ensures at c.take.ensures.some)).0 in
-    (made (goal.at.returns-clause-registers c).After-unwrap).registers
-    ∙ ap (λ m. frame_of m c.unwrap-trap.result.0) c.zero.ensures
-    ∙ get_or-set_same c.new.new.ram c.unwrap-trap.result.0 (replicate 4096 0) _ inside
-
-pub returns-clause-trades : goal.returns-clause-trades
-returns-clause-trades c = (made (goal.at.returns-clause-trades c).After-unwrap).trades
+    record {
+      space = all.space;
+      size = refl;
+      registers = all.registers ∙ ap (λ m. frame_of m c.unwrap-trap.result.0) c.zero.ensures
+          ∙ get_or-set_same c.new.new.memory.ram c.unwrap-trap.result.0 (replicate 4096 0) _ inside;
+      trades = all.trades;
+    }

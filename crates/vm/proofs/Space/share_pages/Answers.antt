@@ -18,8 +18,9 @@ all : goal.returns-clause-all
 all c =
     let end : c.loop-page.page ≡ pages_in c.args.self.now.size =
     omega (arith, c.pages_in-page-end.ensures, c.loop-page-test.false) in
-    subst (λ n. IsSoFar c.args.ram.now c.loop-page.ram c.args.self.now c.args.child.now n c.args.frames.now
-    c.loop-page.frames) end c.loop-page.invariant
+    subst (λ n. IsSoFar c.args.memory.now.ram c.loop-page.memory.ram c.args.self.now c.args.child.now n
+    c.args.memory.now.frames
+    c.loop-page.memory.frames) end c.loop-page.invariant
 
 pub returns-clause-all : goal.returns-clause-all
 returns-clause-all c = all c

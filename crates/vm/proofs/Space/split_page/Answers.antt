@@ -6,7 +6,8 @@ use Rattle.vm.proofs.Space.split_page.Goals as goal
 use Rattle.vm.proofs.Space.split_page.Goals.{After-copy}
 
 split : (c : After-copy)
-    → IsSplit c.args.ram.now c.copy.new.self c.args.frames.now c.split-own.new.self c.args.frame.0 c.split-own.result.0
+    → IsSplit c.args.memory.now.ram c.copy.new.self c.args.memory.now.frames c.split-own.new.self c.args.frame.0
+    c.split-own.result.0
 split c = record {
   taken = c.split-own.ensures.taken;
   after = c.split-own.ensures.valid;
@@ -16,7 +17,7 @@ split c = record {
 
 pub copy-requires : goal.copy-requires
 copy-requires c = record {
-  from = page-inside-is c.requires.space _ _ c.requires.page c.requires.frame;
+  from = page-inside-is c.requires.space _ _ c.requires.may.page c.requires.may.frame;
   to = (free-first c.requires.space.free _ _ c.split-own.ensures.taken).0;
 }
 
@@ -26,27 +27,31 @@ remap-requires c =
     record {
       paged = (split-paged c.requires.space e).0;
       page = omega (arith, c.requires.space.dense.small);
-      mapped = split-mapped c.requires.space e _ c.requires.page;
+      mapped = split-mapped c.requires.space e _ c.requires.may.page;
       frame = omega (
         arith,
         (free-first c.requires.space.free _ _ c.split-own.ensures.taken).0,
         split-count c.requires.space.free e,
       );
-      marks = c.requires.marks;
+      marks = c.requires.may.marks;
     }
 
 pub returns : goal.returns
 returns c =
     let e = split (goal.at.returns c).After-copy in
-    let r = c.remap.ensures in
-    let paged = split-paged c.requires.space e in
+    let is = c.requires.space in
+    let may = c.requires.may in
+    let maps = c.remap.ensures.maps in
+    let r = c.remap.ensures.rewrites in
+    let paged = split-paged is e in
     record {
-      same = rearranged _ c.requires.space c.requires.page
-          (remap-split c.requires.space e c.requires.page c.requires.frame c.requires.leaf r.inserts r.tables
-          (r.tidy paged.1) r.paged r.keeps r.free) c.requires.right;
-      sole = split-sole c.requires.space.free e;
-      frame = frame_at-is _ _ _ r.inserts.changed;
-      marks = marks_at-is _ _ _ r.inserts.changed;
-      others = λ p low ne. marks_at-same _ _ _ p
-          (r.inserts.others p (omega (arith, low, c.requires.space.dense.small)) ne ∙ paged.2 p);
+      same = rearranged _ is may.page (remap-split is e may.page may.frame may.user r.holders maps r.tables
+          (c.remap.ensures.tidy paged.1) r.paged r.keeps r.free) c.requires.right;
+      sole = rw r.holders (split-sole is.free e);
+      has = record {
+        frame = frame_at-is _ _ _ maps.changed;
+        marks = marks_at-is _ _ _ maps.changed;
+        others = λ p low ne. marks_at-same _ _ _ p (maps.others p (omega (arith, low, is.dense.small)) ne
+            ∙ paged.2 p);
+      };
     }

@@ -39,5 +39,6 @@ unmap_in-requires-clause-before c =
 
 pub returns-clause-low : goal.returns-clause-low
 returns-clause-low c =
-    rw (low-before c.args.n c.if-n-eq0-2.false) (c.unmap_in.ensures.tables (low_node c.args.n) (low_is_node c.args.n)
+    rw (low-before c.args.n c.if-n-eq0-2.false)
+    (c.unmap_in.ensures.rewrites.tables (low_node c.args.n) (low_is_node c.args.n)
     ∙ c.leaf_table-low.ensures)
