@@ -8,15 +8,6 @@ use crate::directory::ROOT;
 use blockdev::BlockDev;
 use tree::{DIRECTORY, FILE, Tree, TreeFault};
 
-// Why something of another type is no file.
-fn refusal(kind: u16, device: TreeFault) -> TreeFault {
-    if kind == DIRECTORY {
-        TreeFault::IsDir
-    } else {
-        device
-    }
-}
-
 /// The number of the file that a path reaches from the root, none where it reaches nothing. A directory is refused as
 /// `IsDir`, and a device as `device`.
 pub fn file_at<D: BlockDev>(
@@ -35,8 +26,11 @@ pub fn file_at<D: BlockDev>(
         return Ok(None);
     };
     let node = tree.stat(number)?;
+    if node.kind == DIRECTORY {
+        return Err(TreeFault::IsDir);
+    }
     if node.kind != FILE {
-        return Err(refusal(node.kind, device));
+        return Err(device);
     }
     Ok(Some(number))
 }
