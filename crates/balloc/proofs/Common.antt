@@ -18,10 +18,11 @@ pub use Rattle.blockdev.specs.Blocks.{block_at}
 pub use Rattle.blockdev.specs.Splice.{part, splice}
 pub use Rattle.cache.proofs.Using.{goes-after, goes-stays, read-done, step-done, step-failed, step-last}
 pub use Rattle.cache.specs.Steps.{Goes}
-pub use Rattle.layout.proofs.GrowLemmas.{asks_none, at_or, data_from, get_or-nodes_of, Grows-empty, Grows-keeps}
-pub use Rattle.layout.proofs.GrowLemmas.{Grows-node, Grows-sound, HasParts-kept, HoldsBytes-empty, IsSound-replace}
-pub use Rattle.layout.proofs.GrowLemmas.{KeepsOthers, length-nodes_of, mark, node_at-none, nodes_of-changed}
-pub use Rattle.layout.proofs.GrowLemmas.{PutsBlock-write, set_from, WritesInode-write, zero_at}
+pub use Rattle.layout.proofs.SoundLemmas.{asks_none, Grows-empty, Grows-keeps, Grows-node, Grows-sound}
+pub use Rattle.layout.proofs.SoundLemmas.{HoldsBytes-empty, zero_at}
+pub use Rattle.layout.proofs.GrowLemmas.{at_or, data_from, get_or-nodes_of, HasParts-kept, IsSound-replace, KeepsOthers}
+pub use Rattle.layout.proofs.GrowLemmas.{length-nodes_of, mark, node_at-none, nodes_of-changed, PutsBlock-write}
+pub use Rattle.layout.proofs.GrowLemmas.{set_from, WritesInode-write}
 pub use Rattle.layout.specs.Image.{bit_of, free_blocks, inode_at, IsFree, IsInode, IsUsed, node_with, RawNode}
 unfoldable pub use Rattle.layout.specs.Image.{bit_in, data_bits, node_at, nodes_of}
 pub use Rattle.layout.specs.Inode.{Fits, fresh_inode, inode_bytes, inode_of}

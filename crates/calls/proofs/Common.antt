@@ -23,13 +23,14 @@ pub use Rattle.files.specs.Meant.{file_of, target_of}
 pub use Rattle.files.specs.Places.{Counted, file_at, free_count}
 pub use Rattle.files.specs.declared.file.Target.{Target}
 pub use Rattle.inode.specs.declared.InodeStat.{InodeStat}
-pub use Rattle.kernel.proofs.Holding.{home-folder, is_by, kept-cong, used-is}
+pub use Rattle.kernel.proofs.Holding.{home-folder, used-is}
+pub use Rattle.kernel.proofs.Releasing.{is_by, kept-cong}
 pub use Rattle.kernel.proofs.Readies.{busy-state, idle-turn, running-state, stands-open, turn-alive, frames-state}
 pub use Rattle.kernel.proofs.Steps.{ends-at, ends-run, stops-run, waits-run, serves-disk}
 pub use Rattle.kernel.proofs.Memories.{drew-state, reheld-full, resized-state, wrote-state}
 pub use Rattle.kernel.proofs.Joined.{waits-other, waits-reading, waits-writing}
-pub use Rattle.kernel.proofs.Runs.{reap-state, within-state, home-running, moved-state, process-run, self, set-slot}
-pub use Rattle.kernel.proofs.Runs.{slot-put, slot-within}
+pub use Rattle.kernel.proofs.Reaping.{reap-state, within-state}
+pub use Rattle.kernel.proofs.Runs.{home-running, moved-state, process-run, self, set-slot, slot-put, slot-within}
 pub use Rattle.kernel.proofs.Turning.{descriptors-run, dup-state, renamed-within, me_of, Runner, runner-of}
 pub use Rattle.kernel.proofs.Watching.{kernel-waking, state-but, state-waking}
 pub use Rattle.kernel.specs.Descriptors.{descriptors_in}

@@ -1,205 +1,34 @@
 -- open, chdir and exec: a node is opened, becomes the directory of the running process, or gives its program.
-use Rattle.calls.proofs.Common.{[], Acts, ActsOnDisk, and_parts, answered, answered-here, Answers, answers, ap, args_at}
-use Rattle.calls.proofs.Common.{argument, arith, blocks_of, Bool, Came, change_node, Chdir, chdir_row, count_by}
-use Rattle.calls.proofs.Common.{descriptors_in, DeviceFault, Directory, directory_at, Done, enter-parts, Err, Exec}
-use Rattle.calls.proofs.Common.{exec_row, false, false≢true, File, file_bytes, file_of, Files, FileTree, find}
-use Rattle.calls.proofs.Common.{fits_beside, FitsNode, frames-state, free-None, free-opens, free_count, free_slot}
-use Rattle.calls.proofs.Common.{get_or-set_other, get_or-set_same, given, has_bit, has_failed, has_seat, HasRead}
-use Rattle.calls.proofs.Common.{HasReplaced, held-here, Here, here-as, here-of, if◌then◌else◌, inl, InodeStat, inr}
-use Rattle.calls.proofs.Common.{is_directory, is_none, IsFolder, IsKernel, IsRefused, IsServed, IsWhole, Kernel}
-use Rattle.calls.proofs.Common.{kind_of, le-leb, le_trans, leaf_node, length, limited, List, low, lt-leb, Made, made_at}
-use Rattle.calls.proofs.Common.{made_files, made_in, make-parts, MakesNode, me, nat_le, nat_lt, ne_eqb, Node, node_on}
-use Rattle.calls.proofs.Common.{None, none-some, not, Ok, OnNode, Open, open_row, Option, option_and_then}
-use Rattle.calls.proofs.Common.{option_and_then_some, option_map, Outcome, outcome_of, Overflows, page_frames}
-use Rattle.calls.proofs.Common.{path_argument, Process, process-here, provided, put, put_process, Reaches, refl}
-use Rattle.calls.proofs.Common.{Refused, Refuses, replaced, Result, row_of, Runs, same_Some, set-slot, settle}
-use Rattle.calls.proofs.Common.{slice_index, slice_set, slot, slot-within, Some, Spot, spot_of, State, state-but}
-use Rattle.calls.proofs.Common.{state_of, subst, suc, sym, target_of, Tells, TellsMajor, TreeFault, true, view_at}
-use Rattle.calls.proofs.Common.{with_tree, WorksIn, ℕ, ◌%◌, ◌+◌, ◌<◌, ◌==◌, ◌||◌, ◌∙◌, ◌≡◌, ◌≢◌, ◌≤◌}
-use Rattle.kernel.specs.Opening.{free_descriptors, MayOpen, opened_on, OpensOn}
-use Rattle.std.proofs.lemmas.Bool.{cases_eq, eqb-true, lt-ltb, ltb-true}
-use Rattle.calls.specs.Opened.{Asks, cut_tree, file_by, IsCut, IsOpenable, may_open_by, Opens, target_by, with_open}
-use Rattle.kernel.proofs.Turning.{open-state}
-use Rattle.files.specs.declared.file.OpenFile.{OpenFile}
+use Rattle.calls.proofs.Common.{[], Acts, ActsOnDisk, answered, answered-here, Answers, answers, ap, args_at, argument}
+use Rattle.calls.proofs.Common.{arith, blocks_of, Bool, Came, Chdir, chdir_row, descriptors_in, DeviceFault, Directory}
+use Rattle.calls.proofs.Common.{directory_at, Done, Err, Exec, exec_row, false, false≢true, File, file_bytes, Files}
+use Rattle.calls.proofs.Common.{FileTree, find, fits_beside, frames-state, free-opens, free_count, free_slot, given}
+use Rattle.calls.proofs.Common.{has_failed, has_seat, HasRead, HasReplaced, held-here, Here, here-as, here-of}
+use Rattle.calls.proofs.Common.{if◌then◌else◌, InodeStat, is_directory, is_none, IsFolder, IsKernel, IsRefused}
+use Rattle.calls.proofs.Common.{IsServed, IsWhole, Kernel, kind_of, le-leb, le_trans, leaf_node, length, limited, List}
+use Rattle.calls.proofs.Common.{low, lt-leb, Made, made_at, made_files, made_in, MakesNode, me, nat_le, nat_lt, ne_eqb}
+use Rattle.calls.proofs.Common.{Node, None, none-some, Ok, Open, open_row, Option, option_and_then}
+use Rattle.calls.proofs.Common.{option_and_then_some, Outcome, outcome_of, Overflows, page_frames, path_argument}
+use Rattle.calls.proofs.Common.{Process, process-here, provided, put_process, Reaches, refl, Refused, Refuses, replaced}
+use Rattle.calls.proofs.Common.{Result, row_of, Runs, settle, slice_index, slot, Some, Spot, spot_of, State, state_of}
+use Rattle.calls.proofs.Common.{subst, sym, Tells, TreeFault, true, view_at, with_tree, WorksIn, ℕ, ◌%◌, ◌+◌, ◌<◌, ◌∙◌}
+use Rattle.calls.proofs.Common.{◌≡◌, ◌≢◌, ◌≤◌}
+use Rattle.kernel.specs.Opening.{free_descriptors}
+use Rattle.calls.specs.Opened.{Asks, cut_tree, IsCut, IsOpenable, may_open_by, Opens, with_open}
 use Rattle.files.specs.Places.{opens_of}
-use Rattle.name_rules.proofs.Finding.{spot-absent}
-use Rattle.unixmodel.specs.Files.Node.{Device}
-use Rattle.unixmodel.specs.NameCalls.{opened, creates, emptied, found_or_made, may_open, new_file, truncated, truncates}
-use Rattle.unixmodel.specs.NameCalls.{make_at}
+use Rattle.name_rules.proofs.Spots.{spot-absent}
+use Rattle.unixmodel.specs.NameCalls.{opened, creates, found_or_made, may_open, new_file, truncated, make_at}
 use Rattle.calls.proofs.Acts.{does, given-refused, provided-refused, refused, runs-of, settles, settles-gone}
 use Rattle.calls.proofs.Names.{found-here, home-is, node-here, over-blocks, path-is, refused-acts, refused-read}
-use Rattle.files.specs.declared.file.Target.TheVariants as target
 use Rattle.tree.specs.declared.making.Leaf.TheVariants as leaf
-use Rattle.unixmodel.specs.OpenFiles as unix_files
 use Rattle.unixmodel.specs.Process as unix
 use Rattle.kernel.proofs.Working.{work-reaps}
 pub use Rattle.calls.proofs.Names.{some-there}
+use Rattle.calls.proofs.Openable.{made-new, may-by, openable-cut, openable-told, some-place, truncated-new}
 use Rattle.programs.specs.declared.executing.Started.{Started}
 use Rattle.programs.specs.Executed.{frames_beside, plan_at}
 use Rattle.unixmodel.specs.Plan.{Plan, plan}
 use Rattle.kernel.proofs.Forking.{replaced-state}
-
--- ---- flags and types
-
-target-of : (n kind major : ℕ)
-    → (target_of (target_by n kind major) ≡ OnNode n 0) × (node_on (target_by n kind major) ≡ Some n)
-target-of n kind major = go (kind == 3) (major == 1) where
-  go : (a b : Bool) → (target_of (if a then (if b then target.Console n else target.Device n) else target.File n 0)
-      ≡ OnNode n 0)
-      × (node_on (if a then (if b then target.Console n else target.Device n) else target.File n 0) ≡ Some n)
-  go true true = (refl, refl)
-  go true false = (refl, refl)
-  go false b = (refl, refl)
-
--- that is the open file of the row
-file-by : (f n kind major : ℕ) → file_of (file_by f (target_by n kind major)) ≡ opened f n
-file-by f n kind major =
-    ap (λ (t : unix_files.Target).
-    let g : unix_files.OpenFile =
-    record { target = t; readable = not (has_bit f 0); writable = has_bit f 0 || has_bit f 1 } in g)
-    (target-of n kind major).0
-
-may-by : (f : ℕ) (node : Node) (kind major : ℕ) → kind ≡ kind_of node → TellsMajor major node
-    → may_open_by f kind major ≡ may_open f node
-may-by f (Device links a b) kind major e m = rw (e, m) refl
-may-by f node kind major e m = rw e refl
-
-device-fits : (f : OpenFile) (n links a b : ℕ) (c : Bool) → (a == 1) ≡ c
-    → FitsNode f (if c then target.Console n else target.Device n) (Some (Device links a b))
-device-fits f n links a b true e = eqb-true a 1 e
-device-fits f n links a b false e = e
-
-fits-by : (f n : ℕ) (node : Node) (kind major : ℕ) → kind ≡ kind_of node → TellsMajor major node
-    → may_open f node ≡ true → FitsNode (file_by f (target_by n kind major)) (target_by n kind major) (Some node)
-fits-by f n (File links bytes) kind major e m may = rw e (omega arith)
-fits-by f n (Device links a b) kind major e m may =
-    rw (e, m) (device-fits (file_by f (target_by n 3 a)) n links a b (a == 1) refl)
-fits-by f n (Directory links places) kind major e m may = let zero' : f ≡ 0 =
-    eqb-true f 0 may in rw (e, zero') (omega arith, refl)
-
-pub openable-told : (files : Files) (n f : ℕ) (told : InodeStat) → (node : Node) × (slot files n ≡ Some node)
-    → ((node : Node) → slot files n ≡ Some node → Tells told node) → may_open_by f told.kind told.major ≡ true
-    → IsOpenable files n f told
-openable-told files n f told here tells may =
-    let t = tells here.0 here.1 in
-    record {
-      node = here.0;
-      here = here.1;
-      kind = t.0;
-      major = t.3;
-      may = sym (may-by f here.0 told.kind told.major t.0 t.3) ∙ may;
-    }
-
--- a file that is emptied stays of its type
-emptied-same : (node : Node)
-    → (kind_of (emptied node) ≡ kind_of node) × ((m : ℕ) → TellsMajor m node → TellsMajor m (emptied node))
-    × ((f : ℕ) → may_open f (emptied node) ≡ may_open f node)
-emptied-same (File links bytes) = (refl, λ m is. is, λ f. refl)
-emptied-same node = (refl, λ m is. is, λ f. refl)
-
-openable-cut : (files : Files) (n f : ℕ) (told : InodeStat) → IsOpenable files n f told
-    → IsOpenable (truncated f (record { files = files; number = n })) n f told
-openable-cut files n f told is = go (truncates f) where
-  go : (b : Bool) → IsOpenable (if b then change_node files n emptied else files) n f told
-  go true = record {
-    node = emptied is.node;
-    here = get_or-set_same files n (option_map emptied (slot files n)) None (slot-within files n is.node is.here)
-        ∙ ap (option_map emptied) is.here;
-    kind = is.kind ∙ sym (emptied-same is.node).0;
-    major = (emptied-same is.node).1 told.major is.major;
-    may = (emptied-same is.node).2 f ∙ is.may;
-  }
-  go false = is
-
--- ---- a descriptor and a slot
-
-some-place : {X : Type 0} (xs : List (Option X)) (n : ℕ) → free_slot xs ≡ Some n → nat_lt 0 (count_by is_none xs) ≡ true
-some-place xs n at = elim (cases_eq (count_by is_none xs) 0) [
-  | inl none ↦ absurd (none-some n (sym (free-None xs none) ∙ at))
-  | inr some ↦ lt-ltb 0 (count_by is_none xs) (omega (arith, some))
-]
-
--- ---- the kernel with one more open file
-
-module _ {k : Kernel} {i : ℕ} (runs : Runs k i) {n f : ℕ} {told : InodeStat} (is : IsOpenable k.tree.files n f told)
-  where
-    abbrev g : OpenFile
-    g = file_by f (target_by n told.kind told.major)
-
-    pub may-be-open : has_seat k i ≡ true → MayOpen k i n g
-    may-be-open seat =
-        let parts = and_parts (nat_lt 0 (free_descriptors k.table i)) (nat_lt 0 (free_count k.files)) seat in
-        record {
-          running = runs.active;
-          descriptor = ltb-true 0 (free_descriptors k.table i) parts.0;
-          place = ltb-true 0 (free_count k.files) parts.1;
-          on = (target-of n told.kind told.major).1;
-          fits = rw is.here (fits-by f n is.node told.kind told.major is.kind is.major is.may);
-          up = runs.up;
-        }
-
-    pub opens-so : {new : Kernel} {fd : ℕ} → OpensOn k new i n g fd → IsKernel new → Opens k new i (opened f n) fd
-    opens-so {new} {fd} o sound =
-        let x = here-of runs in
-        record {
-          place = o.place;
-          first = o.first;
-          free = o.free;
-          state = λ p at.
-              state-but (opened_on k i n g o.place fd) o.same ∙ open-state x.runner g o.place fd n
-              ∙ ap (λ (y : unix.Process). with_open (state_of k) i y fd o.place (file_of g))
-              (same_Some (me x) p (sym (process-here x) ∙ at))
-              ∙ ap (with_open (state_of k) i p fd o.place) (file-by f n told.kind told.major);
-          runs = subst (λ (y : Kernel). Runs y i) (sym o.same)
-              (record {
-                active = runs.active;
-                up = runs.up;
-                sound = subst IsKernel o.same sound;
-                zero = runs.zero;
-                aligned = runs.aligned;
-              });
-          served = rw o.same (record { up = runs.up; same_device = refl; later = omega arith });
-        }
-
--- ---- a file that is emptied
-
-pub cut-runs : {old new : Kernel} {f n i : ℕ} → IsCut old new f n → Runs old i → Runs new i
-cut-runs {i = i} cut runs =
-    subst (λ (y : Kernel). Runs y i) (sym cut.same)
-    (record {
-      active = runs.active;
-      up = runs.up;
-      sound = subst IsKernel cut.same cut.sound;
-      zero = runs.zero;
-      aligned = runs.aligned;
-    })
-
--- ---- a new file
-
-made-new : (files : Files) (at : Spot) (made : Made) → make_at files at new_file ≡ Some made
-    → slot made.files made.number ≡ Some (File 1 [])
-made-new files at made h =
-    let n = made.number in
-    let is = make-parts files at new_file made h in
-    let e = enter-parts (put files n (File 1 [])) at n made.files is.entered in
-    let self : slot (put files n (File 1 [])) n ≡ Some (File 1 []) =
-    get_or-set_same files n (Some (File 1 [])) None is.free.within in
-    elim (cases_eq n at.directory) [
-      | inl same ↦ absurd (let bad : 2
-          ≡ 1 = ap kind_of (same_Some (File 1 []) (Directory (suc e.links) e.places)
-          (sym self ∙ ap (slot (put files n (File 1 []))) same ∙ e.here)) in omega (arith, bad))
-      | inr other ↦ ap (λ fs. slot fs n) e.is
-          ∙ get_or-set_other (put files n (File 1 [])) at.directory n (Some (Directory (suc e.links) e.next)) None
-          other ∙ self
-    ]
-
--- it is empty already
-truncated-new : (f : ℕ) (got : Made) → slot got.files got.number ≡ Some (File 1 []) → truncated f got ≡ got.files
-truncated-new f got here = go (truncates f) where
-  go : (b : Bool) → (if b then change_node got.files got.number emptied else got.files) ≡ got.files
-  go true = ap (λ (o : Option Node). slice_set got.files got.number (option_map emptied o)) here
-      ∙ set-slot got.files got.number (Some (File 1 [])) here
-  go false = refl
 
 -- ---- the row
 

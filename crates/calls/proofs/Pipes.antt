@@ -9,8 +9,8 @@ use Rattle.calls.proofs.Common.{pipe_end, pipe_row, Places, Process, put, ReadEn
 use Rattle.calls.proofs.Common.{slot, slot-put, slot-within, Some, SpaceView, State, state-but, state-waking, state_of}
 use Rattle.calls.proofs.Common.{sym, taken-placed, taken_frames, true, waking, with_both, with_descriptor, WriteEnd}
 use Rattle.calls.proofs.Common.{wrote, ℕ, ◌++◌, ◌+◌, ◌<◌, ◌∙◌, ◌≡◌}
-use Rattle.kernel.proofs.Runs.{match-active, match-place, over-state, live, runs-mode, stands-set, with_process}
-use Rattle.kernel.proofs.Runs.{within-run, within-space}
+use Rattle.kernel.proofs.Reaping.{match-active, match-place, over-state}
+use Rattle.kernel.proofs.Runs.{live, runs-mode, stands-set, with_process, within-run, within-space}
 use Rattle.kernel.specs.Opening.{AreFree, closed_at, duplicated, Ends, HasClosed, HasPiped, pipe_file, piped}
 use Rattle.programs.proofs.Places.{length-write}
 use Rattle.files.specs.Places.{opened, opens_of}
@@ -18,7 +18,7 @@ use Rattle.spaces.specs.Spaces.{written, frames_in, with_pipe}
 use Rattle.unixmodel.specs.OpenFiles.{OpenFile}
 use Rattle.calls.proofs.Acts.{can-here, given-refused, makes, refused, descriptor-is, settles, settles-gone}
 use Rattle.files.specs.declared.file.End.TheVariants as end
-use Rattle.kernel.proofs.Working.{close-reaps}
+use Rattle.kernel.proofs.Closing.{close-reaps}
 
 -- ---- slots
 

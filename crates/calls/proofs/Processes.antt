@@ -1,46 +1,38 @@
--- kill, fork, sbrk and wait: calls on processes. A process that marks itself gets its result, and ends.
+-- kill, fork and sbrk: calls on processes. A process that marks itself gets its result, and ends.
 use Rattle.calls.proofs.Common.{[], Acts, answer-here, answered, answered-here, Answers, answers, ap, argument, arith}
-use Rattle.calls.proofs.Common.{asked, base, Blocks, blocks_of, Bool, Came, can_answer, cast_unsigned, change_process}
-use Rattle.calls.proofs.Common.{changed, clear, collected, copied, descriptors_at, Done, end_at, end_process, ended}
-use Rattle.calls.proofs.Common.{ends-run, Err, false, Files, Fork, forked_as, frames_of, free_slot, get_or-set_other}
-use Rattle.calls.proofs.Common.{given, goes_on, GoesOn, has_child, held-here, Here, here-as, here-of, IfSome, int_of}
-use Rattle.calls.proofs.Common.{is_described, is_same, is_some, is_within, IsKernel, IsPending, kept-cong, Kernel, Kill}
-use Rattle.calls.proofs.Common.{KillsItself, last_pid, le, le-leb, length, limited, links_of, List, loaded, map, marked}
-use Rattle.calls.proofs.Common.{marked_by, me, memory_at, nat_eq, nat_le, nat_lt, natural, ne_eqb, negsuc, no_pages}
-use Rattle.calls.proofs.Common.{None, Ok, on_hart, open_limit, Option, option_map, Outcome, Pending, pending_arg}
-use Rattle.calls.proofs.Common.{pending_for, place_called, place_of_pid, Places, pos, Process, process-here, process_at}
-use Rattle.calls.proofs.Common.{provided, put, put_process, quiet, reap, refl, Refused, Refuses, reheld-full, resized}
-use Rattle.calls.proofs.Common.{resized-state, rest_of, row_of, Runs, Sbrk, set-slot, set_comm, settle, settled_by}
-use Rattle.calls.proofs.Common.{slice_index, slice_set, slot, slot-put, slot-within, Some, SpaceView, State, state-but}
-use Rattle.calls.proofs.Common.{state-waking, state_of, subst, suc, sum_by, sym, taken_frames, true, unwrap_or, view_at}
-use Rattle.calls.proofs.Common.{Wait, wait_for, waits-other, waking, with_answer, with_space, with_status, with_table}
-use Rattle.calls.proofs.Common.{within-state, without_nodes, without_opens, without_pipes, wrote-state, zero}
-use Rattle.calls.proofs.Common.{zombie_child, ℕ, ℤ, ◌%◌, ◌&&◌, ◌+ℤ◌, ◌+◌, ◌<◌, ◌==◌, ◌||◌, ◌∙◌, ◌∷◌, ◌≡◌, ◌≢◌}
-use Rattle.kernel.proofs.Readies.{place-changed, place-state, process-state}
+use Rattle.calls.proofs.Common.{asked, base, blocks_of, Bool, change_process, changed, copied, Done, end_at}
+use Rattle.calls.proofs.Common.{end_process, ended, ends-run, Err, false, Files, Fork, forked_as, frames_of, free_slot}
+use Rattle.calls.proofs.Common.{get_or-set_other, given, held-here, Here, here-as, here-of, int_of, is_described}
+use Rattle.calls.proofs.Common.{is_same, is_within, IsKernel, kept-cong, Kernel, Kill, KillsItself, last_pid, le-leb}
+use Rattle.calls.proofs.Common.{length, limited, links_of, List, loaded, map, marked, marked_by, me, nat_le, nat_lt}
+use Rattle.calls.proofs.Common.{natural, negsuc, None, Ok, on_hart, open_limit, Option, option_map, Outcome}
+use Rattle.calls.proofs.Common.{place_called, place_of_pid, Places, pos, Process, process-here, process_at, provided}
+use Rattle.calls.proofs.Common.{put, quiet, reap, refl, Refused, Refuses, reheld-full, resized, resized-state, rest_of}
+use Rattle.calls.proofs.Common.{row_of, Runs, Sbrk, settle, settled_by, slice_index, slice_set, slot, slot-put}
+use Rattle.calls.proofs.Common.{slot-within, Some, SpaceView, State, state-but, state-waking, state_of, subst, suc}
+use Rattle.calls.proofs.Common.{sum_by, sym, taken_frames, true, view_at, waking, with_answer, with_table, within-state}
+use Rattle.calls.proofs.Common.{without_nodes, without_opens, without_pipes, zero, ℕ, ℤ, ◌%◌, ◌&&◌, ◌+ℤ◌, ◌+◌, ◌<◌}
+use Rattle.calls.proofs.Common.{◌==◌, ◌||◌, ◌∙◌, ◌∷◌, ◌≡◌, ◌≢◌}
+use Rattle.kernel.proofs.Readies.{place-state}
 use Rattle.calls.proofs.Common.{Result}
 use Rattle.std.specs.List.{list_any}
 use Rattle.unixmodel.specs.Outcome.{halt_status, orphaned, with_zombie, zombie_of}
-use Rattle.unixmodel.specs.ProcessCalls.{fork_row, kill_row, sbrk_row, wait_on, wait_row}
-use Rattle.proc.specs.Places.{changed_at, has_pid, is_child_of, is_zombie_child_of, place_where, reaped_at, seat_at}
-use Rattle.proc.specs.Places.{seat_of, with_mark, zombie_place}
-use Rattle.kernel.proofs.Joined.{change_process-with_table, has_child-with_table, zombie_child-with_table}
-use Rattle.kernel.proofs.Runs.{change-run, loaded-run, slot-other}
+use Rattle.unixmodel.specs.ProcessCalls.{fork_row, kill_row, sbrk_row}
+use Rattle.proc.specs.Places.{changed_at, has_pid, place_where, seat_at, seat_of, with_mark}
+use Rattle.kernel.proofs.Joined.{change_process-with_table}
+use Rattle.kernel.proofs.Runs.{change-run}
 use Rattle.std.proofs.lemmas.List.Sums.{sum_by-cons}
 use Rattle.unixmodel.specs.Files.{taken}
 use Rattle.unixmodel.specs.Counts.{opens_of, process_frames}
 use Rattle.unixmodel.specs.OpenFiles.{OpenFile, is_node}
-use Rattle.calls.proofs.Acts.{came, makes, refused, does, begins-on, goes-done, goes-waits, going, provided-refused}
+use Rattle.calls.proofs.Acts.{came, makes, refused, does}
 use Rattle.unixmodel.specs.Process as unix
 use Rattle.unixmodel.specs.ProcessCalls as rows
 use Rattle.kernel.proofs.Forking.{fork-full, fork-state, free-run, next-run}
 use Rattle.kernel.specs.Processes.{HasForked, LacksRoom}
-use Rattle.proc.proofs.Waiting.{IsSeat, seat-is}
+use Rattle.proc.proofs.Seats.{IsSeat, seat-is}
 use Rattle.proc.specs.declared.table.ProcFault.{ProcFault}
 use Rattle.proc.specs.declared.table.Seat.{Seat}
-use Rattle.std.specs.Int.{w32}
-use Rattle.kernel.proofs.Working.{collected-kernel, collected-run, collected-state, has-reaped, HasReaped, unreaped-go}
-use Rattle.kernel.proofs.Working.{zombie-idle}
-use Rattle.proc.specs.declared.table.Reaped.{Reaped}
 
 -- ---- lists in which one slot changes
 
@@ -286,141 +278,3 @@ module _ {k : Kernel} {i : ℕ} (x : Here k i) where
         → Acts k new i (Some Sbrk) Refuses
     sbrk-over over same = rw same
         (refused x (Some Sbrk) (ap limited sized-row ∙ rw (reheld-full x.run x.sound _ over) refl))
-
--- ---- wait: the first zombie child of the running process is collected, and its status is written
-
--- ---- the status is written
-
-status-is : {k : Kernel} {i : ℕ} (x : Here k i) (a : ℕ) (status : ℤ)
-    → let to = with_status k i a status
-    in (state_of to ≡ put_process (state_of k) i (rows.with_status (me x) a status))
-    × ((to.spaces.active ≡ k.spaces.active) × (to.tree ≡ k.tree))
-status-is {k} {i} x zero status = (
-  ap (λ (places : List (Option unix.Process)). record (state_of k) { places = places })
-      (sym (set-slot (state_of k).places i (Some (me x)) (process-here x))),
-  (refl, refl),
-)
-status-is x (suc a) status =
-    let some : nat_eq (suc a) 0 ≡ false = ne_eqb (suc a) 0 (λ same. absurd (omega (arith, same))) in
-    rw some (wrote-state x.run x.sound (suc a) (le 4 (cast_unsigned w32 status)), (refl, refl))
-
--- ---- the call
-
-module _ {k : Kernel} {i : ℕ} (x : Here k i) (parent : ℕ)
-    (named : IfSome (slot k.table.places i) (λ p. parent ≡ p.pid)) where
-  parent-is : x.process.pid ≡ parent
-  parent-is = let e : parent ≡ x.process.pid = rw x.run.process at named in sym e
-
-  zombie-is : zombie_child (state_of k) x.process.pid ≡ zombie_place k.table parent
-  zombie-is =
-      zombie_child-with_table (base (rest_of k)) (loaded k) k.spaces.places x.process.pid
-      ∙ place-changed (is_zombie_child_of x.process.pid) (λ s p. refl) k.table k.spaces k.spaces.active
-      ∙ ap (zombie_place k.table) parent-is
-
-  child-is : has_child (state_of k) x.process.pid ≡ is_some (place_where k.table.places (is_child_of parent))
-  child-is =
-      has_child-with_table (base (rest_of k)) (loaded k) k.spaces.places x.process.pid
-      ∙ ap is_some (place-changed (is_child_of x.process.pid) (λ s p. refl) k.table k.spaces k.spaces.active)
-      ∙ ap (λ (n : ℕ). is_some (place_where k.table.places (is_child_of n))) parent-is
-
-  module _ (w : Pending) (number : w.number ≡ Wait) where
-    wait-row : going x w ≡ wait_for (state_of k) i (me x) w (zombie_place k.table parent)
-    unfolding wait_on
-    wait-row = ap (goes_on (state_of k) i (me x) w) number ∙ ap (wait_for (state_of k) i (me x) w) zombie-is
-
-    -- r was collected, which left kernel m
-    module _ {r : Reaped} (said : Some r ≡ reaped_at k.table (zombie_place k.table parent)) {m : Kernel}
-        (left : m ≡ collected k (zombie_place k.table parent)) where
-      has : HasReaped k parent r
-      has = has-reaped said
-
-      apart : r.place ≢ i
-      apart same = zombie-idle x.sound r.place has.child has.zombie (x.run.active ∙ ap Some (sym same))
-
-      abbrev mid : Kernel
-      mid = collected k (Some r.place)
-
-      mid-is : m ≡ mid
-      mid-is = left ∙ ap (collected k) has.found
-
-      abbrev mid-here : Here mid i
-      mid-here = record {
-        runner = record {
-          process = x.process;
-          held = x.held;
-          run = collected-run x.runner r.place apart;
-          sound = collected-kernel x.sound r.place has.child has.zombie;
-        };
-        up = x.up;
-      }
-
-      child-at : process_at (state_of k) r.place ≡ Some (with_space (view_at k.spaces r.place) has.child)
-      child-at =
-          process-state k r.place
-          ∙ ap (option_map (with_space (view_at k.spaces r.place)))
-          (ap (λ (t : Places). slot t.places r.place) (loaded-run k i x.process x.held x.run)
-          ∙ slot-other k.table.places i r.place (Some (on_hart k.spaces x.process)) apart ∙ has.zombie.at)
-
-      pub collects-can : can_answer (memory_at k i) (pending_arg w 0) ≡ true
-          → (m.spaces.active ≡ Some i) × (can_answer (memory_at m i) (pending_arg w 0) ≡ true)
-      collects-can can = rw mid-is (
-        x.run.active,
-        ap (λ (o : Option SpaceView). can_answer (unwrap_or o no_pages).memory (pending_arg w 0))
-            (slot-other k.spaces.places r.place i None (λ e. apart (sym e))) ∙ can,
-      )
-
-      pub collects : {new : Kernel} → IsKernel new → new ≡ with_status m i (pending_arg w 0) r.status
-          → GoesOn k new i w (Answers r.pid)
-      collects {new} sound is =
-          let a = pending_arg w 0 in
-          let to : new ≡ with_status mid i a r.status = is ∙ ap (λ (y : Kernel). with_status y i a r.status) mid-is in
-          let after = status-is mid-here a r.status in
-          let state : state_of (with_status mid i a r.status)
-          ≡ record (state_of k) {
-            places = clear
-                (put (state_of k).places i (rows.with_status (me x) a r.status)) r.place;
-          } =
-          after.0
-          ∙ ap (λ (s : State). put_process s i (rows.with_status (me x) a r.status))
-          (collected-state x.runner r.place has.child has.zombie apart)
-          ∙ ap (λ (places : List (Option unix.Process)). record (state_of k) { places = places })
-          (set_comm (state_of k).places r.place i None (Some (rows.with_status (me x) a r.status)) apart) in
-          rw has.pid (goes-done x w has.child.pid sound to after.1.0 after.1.1
-          (state ∙ ap (λ (z : ℤ). record (state_of k)
-          { places = clear (put (state_of k).places i (rows.with_status (me x) a z)) r.place }) has.status)
-          (wait-row ∙ ap (wait_for (state_of k) i (me x) w) has.found
-          ∙ ap (λ (o : Option unix.Process). given o (λ c. rows.collect (state_of k) i (me x) a r.place c))
-          child-at))
-
-    pub wait-blocks : {m : Kernel} → can_answer (memory_at k i) (pending_arg w 0) ≡ true
-        → reaped_at k.table (zombie_place k.table parent) ≡ None → m ≡ collected k (zombie_place k.table parent)
-        → GoesOn k m i w (Blocks w)
-    wait-blocks can is left =
-        let none = unreaped-go k.table parent (zombie_place k.table parent) refl is in
-        rw (left, none) (goes-waits x w w x.sound refl refl refl (
-          subst (IsPending (descriptors_at k i) (memory_at k i) w) (sym number) can,
-          waits-other _ _ w Wait (λ same. absurd (cc)) (λ same. absurd (cc)) number,
-        ) refl
-        (wait-row ∙ ap (wait_for (state_of k) i (me x) w) none))
-
-  -- ---- the call begins
-
-  can-is : can_answer (memory_at k i) (argument k 0) ≡ can_answer x.held.memory (argument k 0)
-  can-is = ap (λ (y : SpaceView). can_answer y.memory (argument k 0)) (held-here x)
-
-  pub wait-childless : is_some (place_where k.table.places (is_child_of parent)) ≡ false
-      → Acts k k i (Some Wait) Refuses
-  unfolding wait_row
-  wait-childless none = refused x (Some Wait) (rw (child-is, none) refl)
-
-  pub wait-unwritable : can_answer (memory_at k i) (argument k 0) ≡ false → Acts k k i (Some Wait) Refuses
-  unfolding wait_row
-  wait-unwritable cannot =
-      refused x (Some Wait) (provided-refused (has_child (state_of k) x.process.pid) _ (rw (sym can-is ∙ cannot) refl))
-
-  -- the call goes on as it would later
-  pub wait-begins : is_some (place_where k.table.places (is_child_of parent)) ≡ true
-      → can_answer (memory_at k i) (argument k 0) ≡ true
-      → {new : Kernel} {c : Came} → GoesOn k new i (pending_for k Wait) c → Acts k new i (Some Wait) c
-  unfolding wait_row
-  wait-begins some can goes = begins-on x (pending_for k Wait) Wait (rw (child-is, some, sym can-is ∙ can) refl) goes

@@ -1,39 +1,34 @@
--- A read and a write of a file, whose offset goes on after what was transferred; and fstat.
-use Rattle.calls.proofs.Common.{[], Acts, and_parts, Answers, answers, ap, argument, arith, blocks_of, Bool, bytes_of}
-use Rattle.calls.proofs.Common.{bytes_read, can_write, cond_some, counting, descriptors_at, Directory, Done, drop, Err}
-use Rattle.calls.proofs.Common.{false, File, file-opens, file_at, file_of, Files, FileTree, FitsNode, Fstat, fstat_row}
-use Rattle.calls.proofs.Common.{given, GoesOn, HasRead, Here, here-as, here-in, if◌then◌else◌, InodeStat}
-use Rattle.calls.proofs.Common.{IsKernel, IsServed, IsWhole, Kernel, le, leb-true, length, length-drop, length-take}
-use Rattle.calls.proofs.Common.{limited, List, longest, low, me, memory_at, minus_one, nat_le, Node, node_bytes}
-use Rattle.calls.proofs.Common.{node_of, node_on, None, none-some, Ok, OnNode, opens-moved, Option, option_map, Outcome}
-use Rattle.calls.proofs.Common.{Pending, pending_arg, provided, put, put_process, read_on, refl, Refused, Refuses}
-use Rattle.calls.proofs.Common.{room_for, row, row_of, same_Some, slot, Some, stat_bytes, stat_told, State, state_of}
-use Rattle.calls.proofs.Common.{subst, sym, take, Target, target_of, Tells, Transfers, true, Uses, wanted, with_tree}
-use Rattle.calls.proofs.Common.{write_bytes, write_on, wrote, wrote-state, zeros, ℕ, ◌%◌, ◌&&◌, ◌+◌, ◌/◌, ◌<◌, ◌==◌}
-use Rattle.calls.proofs.Common.{◌^◌, ◌∙◌, ◌∷◌, ◌≡◌, ◌≤◌}
-use Rattle.unixmodel.specs.FileCalls.{node_number, read_file, read_node, with_file, with_offset, write_node}
+-- A read and a write of a file, whose offset goes on after what was transferred.
+use Rattle.calls.proofs.Common.{[], and_parts, Answers, ap, arith, blocks_of, Bool, bytes_of, bytes_read, cond_some}
+use Rattle.calls.proofs.Common.{counting, Directory, Done, drop, false, File, file_at, file_of, Files, FileTree}
+use Rattle.calls.proofs.Common.{FitsNode, GoesOn, here-as, if◌then◌else◌, IsKernel, IsServed, IsWhole, Kernel, leb-true}
+use Rattle.calls.proofs.Common.{length, length-drop, length-take, List, longest, low, me, minus_one, nat_le, Node}
+use Rattle.calls.proofs.Common.{node_bytes, None, none-some, OnNode, opens-moved, Option, option_map, Pending}
+use Rattle.calls.proofs.Common.{pending_arg, put, put_process, read_on, refl, Refused, Refuses, room_for, same_Some}
+use Rattle.calls.proofs.Common.{slot, Some, State, state_of, subst, sym, take, Target, target_of, Transfers, true, Uses}
+use Rattle.calls.proofs.Common.{wanted, with_tree, write_bytes, write_on, wrote, wrote-state, ℕ, ◌&&◌, ◌+◌, ◌<◌, ◌==◌}
+use Rattle.calls.proofs.Common.{◌^◌, ◌∙◌, ◌≡◌, ◌≤◌}
+use Rattle.unixmodel.specs.FileCalls.{read_file, read_node, with_file, with_offset, write_node}
 use Rattle.kernel.specs.Opening.{advanced, HasFetched, HasStored, MayMove}
 use Rattle.tree.proofs.Storing.{whole-node}
 use Rattle.files.specs.declared.file.End.{End}
 use Rattle.files.specs.declared.file.OpenFile.{OpenFile}
-use Rattle.files.specs.Places.{opens_of, moved, node_at, node_from}
+use Rattle.files.specs.Places.{opens_of, moved}
 use Rattle.file_transfers.proofs.Fits.{greatest-low}
 use Rattle.kernel.proofs.Joined.{IsNamed}
-use Rattle.kernel.proofs.Steps.{counting-kernel}
+use Rattle.kernel.proofs.Ending.{counting-kernel}
 use Rattle.tree.specs.Stored.{FitsPlaces}
 use Rattle.tree.specs.Written.{count_of, files_after, fitting, IsFile, with_bytes, Written, written}
 use Rattle.unixmodel.specs.Image.{KeepsSize}
-use Rattle.calls.proofs.Acts.{goes-serves, going, going-here, refused, refuses-on, can-here, descriptor-is, does}
-use Rattle.calls.proofs.Transfers.{file, file-fits, file-named, given_bytes, going-is, length-given}
-use Rattle.calls.proofs.Transfers.{read-given, here, fits-at, is-for, named-number}
+use Rattle.calls.proofs.Acts.{goes-serves, going, going-here, refuses-on}
+use Rattle.calls.proofs.Transfers.{file, file-fits, file-named, given_bytes, going-is, length-given, read-given, here}
+use Rattle.calls.proofs.Transfers.{is-for, named-number}
 use Rattle.calls.specs.Transfers.{target_for}
 use Rattle.calls.specs.declared.transfer_calls.Transfer.{Transfer}
 use Rattle.files.specs.declared.file.End.TheVariants as end
 use Rattle.files.specs.declared.file.Target.TheVariants as target
 use Rattle.unixmodel.specs.OpenFiles as unix_files
 use Rattle.unixmodel.specs.Process as unix
-use Rattle.std.proofs.Math.Nat.{div-div-eq-div-mul}
-use Rattle.files.specs.declared.table.FileFault.{FileFault}
 use Rattle.unixmodel.specs.Memory.{overwrite}
 
 -- a number below 2^32 is its low 32 bits
@@ -350,115 +345,3 @@ module _ {k : Kernel} {i : ℕ} {x : Transfer} {number offset : ℕ} (u : Uses k
           ∙ ap (λ (s : State). Done s (if n == length (given_bytes to) then n else minus_one) []) (sym kept-is)
           ∙ ap (λ (o : ℕ). Done (state_of (advanced z (file to).number (offset + n))) o [])
           (ap (λ (l : ℕ). if n == l then n else minus_one) (length-given to ∙ sym wide) ∙ sym answers))
-
--- ---- fstat: the attributes of a node
-
--- ---- bytes of numbers
-
-pub le-4 : (x : ℕ) → x % 256 ∷ x / 256 % 256 ∷ x / 65536 % 256 ∷ x / 16777216 % 256 ∷ [] ≡ le 4 x
-le-4 x = simp div-div-eq-div-mul
-
-pub le-8 : (x : ℕ) → x % 256 ∷ x / 256 % 256 ∷ x / 65536 % 256 ∷ x / 16777216 % 256 ∷ x / 4294967296 % 256
-    ∷ x / 1099511627776 % 256 ∷ x / 281474976710656 % 256 ∷ x / 72057594037927936 % 256 ∷ [] ≡ le 8 x
-le-8 x = simp div-div-eq-div-mul
-
--- ---- the node of an open file
-
-from-ok : (o : Option ℕ) (n : ℕ) → node_from o ≡ Ok n → o ≡ Some n
-from-ok None n e = absurd (cc)
-from-ok (Some m) n e = let same : m ≡ n = cc in ap Some same
-
-node-named : (o : Option OpenFile) (n : ℕ) → node_at o ≡ Ok n
-    → (f : OpenFile) × (o ≡ Some f) × (node_number (target_of f.target) ≡ Some n)
-node-named None n e = absurd (cc)
-node-named (Some f) n e = (f, refl, from-ok (node_number (target_of f.target)) n e)
-
-no-number : (o : Option ℕ) (fault : FileFault) → node_from o ≡ Err fault → (rest : ℕ → Outcome)
-    → limited (given o rest) ≡ Refused
-no-number None fault e rest = refl
-no-number (Some n) fault e rest = absurd (cc)
-
-no-node : (o : Option OpenFile) (fault : FileFault) → node_at o ≡ Err fault
-    → (rest : unix_files.OpenFile → ℕ → Outcome)
-    → limited (given (option_map file_of o) (λ f. given (node_number f.target) (rest f))) ≡ Refused
-no-node None fault e rest = refl
-no-node (Some f) fault e rest = no-number (node_number (target_of f.target)) fault e (rest (file_of f))
-
-node-on : (t : Target) → node_on t ≡ node_number (target_of t)
-node-on (target.Pipe q e) = refl
-node-on _ = refl
-
--- it is there
-node-there : (f : OpenFile) (t : Target) (n : ℕ) (o : Option Node) → node_on t ≡ Some n → FitsNode f t o
-    → (node : Node) × (o ≡ Some node)
-node-there f t n (Some node) on fits = (node, refl)
-node-there f (target.Pipe q e) n None on fits = absurd (none-some n on)
-node-there f _ n None on fits = absurd fits
-
-told-is : (n : ℕ) (told : InodeStat) (node : Node) → Tells told node → stat_told n told ≡ stat_bytes n node
-unfolding stat_told stat_bytes
-told-is n told node t = rw (t.0, t.1, t.2) refl
-
-length-told : (n : ℕ) (told : InodeStat) → length (stat_told n told) ≡ 24
-unfolding stat_told zeros
-length-told n _ = refl
-
--- ---- the row
-
-module _ {k : Kernel} {i : ℕ} (x : Here k i) {d id : ℕ} (is : d ≡ low (argument k 0))
-    (named : Some id ≡ slot (descriptors_at k i) d) where
-  named-here : slot x.process.descriptors (low (argument k 0)) ≡ Some id
-  named-here = descriptor-is x is named
-
-  pub fstat-nodeless : {fault : FileFault} → Err fault ≡ node_at (file_at k.files id) → Acts k k i (Some Fstat) Refuses
-  unfolding fstat_row
-  fstat-nodeless {fault} none =
-      refused x (Some Fstat) (rw (named-here, file-opens k.files id) (no-node (file_at k.files id) fault (sym none) _))
-
-  module _ {n : ℕ} (on : Ok n ≡ node_at (file_at k.files id)) where
-    open-on : (f : OpenFile) × (file_at k.files id ≡ Some f) × (node_number (target_of f.target) ≡ Some n)
-    open-on = node-named (file_at k.files id) n (sym on)
-
-    pub fstat-there : (node : Node) × (slot k.tree.files n ≡ Some node)
-    fstat-there =
-        let f = open-on.0 in
-        let used = x.sound.used x.up in
-        let on = node-on f.target ∙ open-on.2 in
-        node-there f f.target n (slot k.tree.files n) on
-        (subst (λ o. FitsNode f f.target (node_of k.tree.files o)) on (fits-at used id f open-on.1))
-
-    abbrev told_bytes : List ℕ
-    told_bytes = stat_bytes n fstat-there.0
-
-    abbrev writes : Outcome
-    writes = answers (put_process (state_of k) i
-        (record (me x) { memory = write_bytes x.held.memory (argument k 1) told_bytes })) 0
-
-    fstat-row : row_of x Fstat ≡ provided (can_write x.held.memory (argument k 1) 24) writes
-    unfolding fstat_row
-    fstat-row = rw (named-here, file-opens k.files id, open-on.1, open-on.2, fstat-there.1) refl
-
-    pub fstat-unwritable : false ≡ can_write (memory_at k i) (argument k 1) 24 → Acts k k i (Some Fstat) Refuses
-    fstat-unwritable cannot =
-        refused x (Some Fstat) (ap limited
-        (fstat-row ∙ ap (λ (b : Bool). provided b writes) (can-here x (argument k 1) 24 cannot)))
-
-    -- the node's attributes are known, and its bytes are written
-    module _ (can : true ≡ can_write (memory_at k i) (argument k 1) 24) {read : Kernel} (has : HasRead k read) {a : ℕ}
-        (is-a : a ≡ argument k 1) (told : InodeStat) {bytes : List ℕ} (numbers : bytes ≡ stat_told n told) where
-      pub fstat-can : can_write (memory_at read i) a (length bytes) ≡ true
-      fstat-can = ap (λ (y : Kernel). can_write (memory_at y i) a (length bytes)) has.same
-          ∙ rw (is-a, ap length numbers ∙ length-told n told) (sym can)
-
-      pub fstat-acts : ((node : Node) → slot k.tree.files n ≡ Some node → Tells told node) → {new : Kernel}
-          → new ≡ wrote read i a bytes → IsKernel new → Acts k new i (Some Fstat) (Answers 0)
-      fstat-acts tells {new} is sound =
-          let from = counting k read.tree.failures in
-          let made : new ≡ wrote from i (argument k 1) told_bytes =
-          is ∙ ap (λ (y : Kernel). wrote y i a bytes) has.same ∙ ap (λ m. wrote from i m bytes) is-a
-          ∙ ap (wrote from i (argument k 1))
-          (numbers ∙ told-is n told fstat-there.0 (tells fstat-there.0 fstat-there.1)) in
-          rw made (does x Fstat 0 (here-in (subst IsKernel made sound) x.run.active x.up)
-          (record { up = x.up; same_device = refl; later = has.later }) (
-          fstat-row ∙ ap (λ (b : Bool). provided b writes) (can-here x (argument k 1) 24 can)
-          ∙ ap (λ (s : State). Done s 0 []) (sym (wrote-state x.run x.sound (argument k 1) told_bytes))))

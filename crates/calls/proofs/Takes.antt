@@ -11,8 +11,8 @@ use Rattle.calls.proofs.Common.{slice_index, slot, Some, SpaceView, started, Sta
 use Rattle.calls.proofs.Common.{Step, step, stopped_at, stops-run, subst, sym, take_turn, Tick, ticked, true, turn}
 use Rattle.calls.proofs.Common.{turn-alive, typed, unwrap_or, waking, with_space, ℕ, ℤ, ◌%◌, ◌+◌, ◌^◌, ◌∙◌, ◌≡◌}
 use Rattle.unixmodel.specs.declared.process.Mode.TheVariants.{Ready, Running, Waiting}
-use Rattle.kernel.proofs.Changes.{picked-state, picks-killed, picks-ready, started-is, started-kernel, started-run}
-use Rattle.kernel.proofs.Changes.{started-state, started_to}
+use Rattle.kernel.proofs.Picking.{picked-state, picks-killed, picks-ready, started-is, started-kernel, started-run}
+use Rattle.kernel.proofs.Picking.{started-state, started_to}
 use Rattle.unixmodel.specs.declared.process.Mode.{Mode}
 use Rattle.kernel.proofs.Runs.{IsRun, IsThere, process-idle, run-of, there-of}
 use Rattle.kernel.proofs.Steps.{computed-is, held-run, placed-with}

@@ -10,7 +10,7 @@ use Rattle.std.proofs.Common.{ap₂, drop, Err, false, get_or, length, List, min
 use Rattle.std.proofs.Common.{subst, suc, sym, true, ℕ, ◌*◌, ◌++◌, ◌+◌, ◌-◌, ◌<◌, ◌≤◌}
 use Rattle.std.specs.Prelude.{is_some, option_map, slice_get}
 use Rattle.std.proofs.lemmas.List.Sums.{fold_more}
-use Rattle.kernel.proofs.Runs.{match-loaded}
+use Rattle.kernel.proofs.Reaping.{match-loaded}
 use Rattle.kernel.proofs.Readies.{process-state}
 use Rattle.proc.specs.declared.process.Process.{Process}
 use Rattle.proc.specs.Places.{Places, changed_at}

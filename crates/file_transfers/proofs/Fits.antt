@@ -10,7 +10,8 @@ use Rattle.file_transfers.proofs.Common.{reach-page}
 use Rattle.std.proofs.lemmas.Bool.Decides.{nat_tests}
 use Rattle.file_transfers.proofs.Memory.{length-overwrite, overwrite-none, overwrite-twice, readable-count}
 use Rattle.tree.specs.Written.{IsFile, Written, count_of, files_after, fitting, with_bytes, write_to, written}
-use Rattle.tree.proofs.Storing.{taken-grows, blocks_of-set, slot-within}
+use Rattle.tree.proofs.Stored.{taken-grows}
+use Rattle.tree.proofs.Storing.{blocks_of-set, slot-within}
 use Rattle.unixmodel.specs.Counts.{blocks_of}
 use Rattle.unixmodel.specs.FileCalls.{greatest, with_file}
 

@@ -1,3 +1,4 @@
 mod Common
 pub mod Memory
+pub mod Pieces
 pub mod Fits

@@ -1,2 +1,3 @@
 pub mod HolderLemmas
+pub mod TradeLemmas
 pub mod FreeLemmas

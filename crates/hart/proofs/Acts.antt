@@ -45,8 +45,8 @@ reads-only acts = record { acts = acts; only = λ f k other. refl }
 
 -- a store to another frame goes on as other operations do
 module _ {held held' : Held} {meaning : Sight → Effect} {pc : ℕ} {old new : Hart} {ram ram' : Ram} where
-  acts-if : {g : FrameNo} {part : ℕ} (b : Bool) → Acts held held' meaning (Stored g part) pc old new ram ram'
-      → Acts held held' meaning (if b then Stored g part else Behind) pc old new ram ram'
+  acts-if : {g : FrameNo} {doubleword : ℕ} (b : Bool) → Acts held held' meaning (Stored g doubleword) pc old new ram ram'
+      → Acts held held' meaning (if b then Stored g doubleword else Behind) pc old new ram ram'
   acts-if true acts = acts
   acts-if false acts = record {
     answers = acts.answers;
@@ -59,17 +59,17 @@ module _ {held held' : Held} {meaning : Sight → Effect} {pc : ℕ} {old new : 
   pub acts-live : (next : Next) (frames : List ℕ) → Acts held held' meaning next pc old new ram ram'
       → Acts held held' meaning (seen_live next frames) pc old new ram ram'
   acts-live Behind frames acts = acts
-  acts-live (Stored g part) frames acts = acts-if (slice_index frames (g.0 % 32) == g.0) acts
+  acts-live (Stored g doubleword) frames acts = acts-if (slice_index frames (g.0 % 32) == g.0) acts
   acts-live (Within to) frames acts = acts
   acts-live (At to) frames acts = acts
   acts-live (Stop t) frames acts = acts
 
 -- a store that isn't reported is to no frame whose page is known
-keeps-if : (frames : List ℕ) (f : ℕ) (g : FrameNo) (part : ℕ) (ram ram' : Ram) (b : Bool)
-    → (slice_index frames (g.0 % 32) == g.0) ≡ b → IsLive frames f → KeepsWords (seen_in (Stored g part) f) f ram ram'
-    → KeepsWords (seen_in (if b then Stored g part else Behind) f) f ram ram'
-keeps-if frames f g part ram ram' true is live keeps = keeps
-keeps-if frames f g part ram ram' false is live keeps =
+keeps-if : (frames : List ℕ) (f : ℕ) (g : FrameNo) (doubleword : ℕ) (ram ram' : Ram) (b : Bool)
+    → (slice_index frames (g.0 % 32) == g.0) ≡ b → IsLive frames f → KeepsWords (seen_in (Stored g doubleword) f) f ram ram'
+    → KeepsWords (seen_in (if b then Stored g doubleword else Behind) f) f ram ram'
+keeps-if frames f g doubleword ram ram' true is live keeps = keeps
+keeps-if frames f g doubleword ram ram' false is live keeps =
     let other : g.0 ≢ f = λ same.
     (let yes : (slice_index frames (g.0 % 32) == g.0) ≡ true = rw same (eq-eqb _ _ live) in cc (is, yes)) in
     rw (ne_eqb g.0 f other) at keeps
@@ -77,8 +77,8 @@ keeps-if frames f g part ram ram' false is live keeps =
 pub keeps-live : (next : Next) (frames : List ℕ) (ram ram' : Ram)
     → ((f : ℕ) → KeepsWords (seen_in next f) f ram ram') → KeepsLive (seen_live next frames) frames ram ram'
 keeps-live Behind frames ram ram' only f live = only f
-keeps-live (Stored g part) frames ram ram' only f live =
-    keeps-if frames f g part ram ram' (slice_index frames (g.0 % 32) == g.0) refl live (only f)
+keeps-live (Stored g doubleword) frames ram ram' only f live =
+    keeps-if frames f g doubleword ram ram' (slice_index frames (g.0 % 32) == g.0) refl live (only f)
 keeps-live (Within to) frames ram ram' only f live = only f
 keeps-live (At to) frames ram ram' only f live = only f
 keeps-live (Stop t) frames ram ram' only f live = only f

@@ -35,7 +35,7 @@ pub use Rattle.unixmodel.specs.declared.trap.Cause.TheVariants.{IllegalInstructi
 pub use Rattle.unixmodel.specs.declared.trap.Cause.TheVariants.{LoadMisaligned, LoadPageFault, StoreMisaligned}
 pub use Rattle.unixmodel.specs.declared.trap.Cause.TheVariants.{StorePageFault}
 pub use Rattle.unixmodel.specs.declared.trap.Trap.{Trap}
-pub use Rattle.hart.specs.Acts.{Acts, goes_to, IsLive, KeepsLive, KeepsWords, Leaves, Operates, part_of, pc_after}
+pub use Rattle.hart.specs.Acts.{Acts, doubleword_of, goes_to, IsLive, KeepsLive, KeepsWords, Leaves, Operates, pc_after}
 pub use Rattle.hart.specs.Acts.{seen_in, seen_live, store_of, trap_of, Turns}
 pub use Rattle.hart.specs.Answered.{Answers, AreAllowed, fetched_by, given, HasEffect, IsStep, load_by, put_at, seen}
 pub use Rattle.hart.specs.Answered.{Sight, store_by, stored, word_by}

@@ -1,12 +1,13 @@
 -- Words of a page and their operations.
 use Rattle.hart.proofs.Common.{Acts, and_parts, ap, AreChecked, AreNow, arith, Bool, cases_eq, cases_lt, drop, eqb-true}
 use Rattle.hart.proofs.Common.{false, get_or-set_other, get_or-set_same, Hart, Held, inl, inr, instruction_of, IsLive}
-use Rattle.hart.proofs.Common.{IsOp}
+use Rattle.hart.proofs.Common.{At, Behind, eq-eqb, IsOp, KeepsWords, seen_in, Some, Stop, store_of, Stored, Within}
 use Rattle.hart.proofs.Common.{length, List, Next, None, trap_of, word_by, ◌/◌}
 use Rattle.hart.proofs.Common.{Op, op_by, Ram, refl, slice_index, slice_index_or, slice_set, StayLive, subst, sym, true}
 use Rattle.hart.proofs.Common.{word_of, ℕ, ◌%◌, ◌&&◌, ◌*◌, ◌+◌, ◌<◌, ◌==◌, ◌∙◌, ◌≡◌, ◌≢◌, ◌≤◌, ◌⊎◌}
 use Rattle.std.proofs.Math.ListN.{replicate}
 use Rattle.std.proofs.lemmas.List.{get_or-drop, get_or-replicate, length-drop}
+use Rattle.ram.specs.declared.FrameNo.{FrameNo}
 use Rattle.hart.specs.Known.{AreKnown, IsPage}
 use Rattle.hart.specs.Operations.{AreDecoded, AreOps}
 use Rattle.hart.specs.declared.live.Set.{Set}
@@ -140,6 +141,21 @@ part-checked words words' ram f parts part now others before p below marked k si
         | inr up ↦ others k (inr (omega (arith, since, up, other))) ∙ old
       ]
 ]
+
+-- a store left the words of its frame but two
+pub store-keeps : (next : Next) {g : FrameNo} {f k : ℕ} (ram ram' : Ram) → store_of next ≡ Some (g, k)
+    → g.0 ≡ f → KeepsWords (seen_in next f) f ram ram'
+    → (j : ℕ) → j / 2 ≢ k / 2 → word_of ram' f (4 * j) 4 ≡ word_of ram f (4 * j) 4
+store-keeps Behind ram ram' is same keeps j beside = absurd (cc is)
+store-keeps (Stored h doubleword) {g} {f} {k} ram ram' is same keeps j beside =
+    let both : (h, 2 * doubleword) ≡ (g, k) = cc is in
+    let frame : h.0 ≡ f = ap (λ (p : FrameNo × ℕ). p.0.0) both ∙ same in
+    let words : 2 * doubleword ≡ k = ap (λ (p : FrameNo × ℕ). p.1) both in
+    (rw (eq-eqb h.0 f frame) at keeps) j (λ e. let its : doubleword ≡ j / 2 =
+    cc e in beside (omega (arith, its, words)))
+store-keeps (Within to) ram ram' is same keeps j beside = absurd (cc is)
+store-keeps (At to) ram ram' is same keeps j beside = absurd (cc is)
+store-keeps (Stop t) ram ram' is same keeps j beside = absurd (cc is)
 
 pub stay-then : (f : ℕ) (frames frames' frames'' : List ℕ) (ram ram' ram'' : Ram) → StayLive f frames frames' ram ram'
     → StayLive f frames' frames'' ram' ram'' → StayLive f frames frames'' ram ram''

@@ -176,7 +176,7 @@ leaves-effect : (effect : Effect) (at : ℕ) (o : Option ℕ) (answers : Answers
     → HasEffect effect (with_answer Fetch at o answers) (trap_of next) old new ram ram'
 leaves-effect (Ok d) at o answers Behind pc old hart new ram ram' h a =
     (refl, a.0 ∙ h.1, a.1 ∙ h.2, a.2 ∙ h.3, h.4 ∙ sym (stored-fetch ram at o answers d.change))
-leaves-effect (Ok d) at o answers (Stored f part) pc old hart new ram ram' h a =
+leaves-effect (Ok d) at o answers (Stored f doubleword) pc old hart new ram ram' h a =
     (refl, a.0 ∙ h.1, a.1 ∙ h.2, a.2 ∙ h.3, h.4 ∙ sym (stored-fetch ram at o answers d.change))
 leaves-effect (Ok d) at o answers (Within to) pc old hart new ram ram' h a =
     (refl, a.0 ∙ h.1, a.1 ∙ h.2, a.2 ∙ h.3, h.4 ∙ sym (stored-fetch ram at o answers d.change))

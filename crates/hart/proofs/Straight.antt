@@ -228,7 +228,7 @@ stops-there _ some = absurd (cc some)
 -- else something is
 pub moves-some : (next : Next) {words done : ℕ} → MovesOn words done next → trap_of next ≡ None → 0 < words → 0 < done
 moves-some Behind moves none more = rw moves more
-moves-some (Stored g part) moves none more = moves
+moves-some (Stored g doubleword) moves none more = moves
 moves-some (Within to) moves none more = moves
 moves-some (At to) moves none more = moves
 moves-some (Stop t) moves none more = absurd (cc none)

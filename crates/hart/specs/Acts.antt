@@ -17,7 +17,7 @@ use Rattle.hart.specs.Stops.{pc_at}
 -- the trap that was raised
 abbrev pub trap_of : Next → Option Trap
 trap_of Behind = None
-trap_of (Stored f part) = None
+trap_of (Stored f doubleword) = None
 trap_of (Within word) = None
 trap_of (At target) = None
 trap_of (Stop t) = Some t
@@ -25,7 +25,7 @@ trap_of (Stop t) = Some t
 -- where a hart goes on; a trap leaves it where it was
 abbrev pub pc_after : Next → ℕ → ℕ
 pc_after Behind pc = plus pc 4
-pc_after (Stored f part) pc = plus pc 4
+pc_after (Stored f doubleword) pc = plus pc 4
 pc_after (Within word) pc = pc_at word.base word.index
 pc_after (At target) pc = target
 pc_after (Stop t) pc = pc
@@ -33,23 +33,23 @@ pc_after (Stop t) pc = pc
 -- where a program goes on, from a pc after what was done
 abbrev pub goes_to : ℕ → Next → ℕ
 goes_to pc Behind = pc
-goes_to pc (Stored f part) = pc
+goes_to pc (Stored f doubleword) = pc
 goes_to pc (Within word) = pc_at word.base word.index
 goes_to pc (At target) = target
 goes_to pc (Stop t) = pc
 
--- the part of a frame that was stored to
-abbrev pub part_of : Next → Option ℕ
-part_of Behind = None
-part_of (Stored f part) = Some part
-part_of (Within word) = None
-part_of (At target) = None
-part_of (Stop t) = None
+-- the doubleword of a frame that was stored to
+abbrev pub doubleword_of : Next → Option ℕ
+doubleword_of Behind = None
+doubleword_of (Stored f doubleword) = Some doubleword
+doubleword_of (Within word) = None
+doubleword_of (At target) = None
+doubleword_of (Stop t) = None
 
--- the frame that was stored to, and its part
+-- the frame that was stored to, and the first word of its doubleword
 abbrev pub store_of : Next → Option (FrameNo × ℕ)
 store_of Behind = None
-store_of (Stored f part) = Some (f, part)
+store_of (Stored f doubleword) = Some (f, 2 * doubleword)
 store_of (Within word) = None
 store_of (At target) = None
 store_of (Stop t) = None
@@ -57,7 +57,7 @@ store_of (Stop t) = None
 -- of stores only one to this frame
 abbrev pub seen_in : Next → ℕ → Next
 seen_in Behind f = Behind
-seen_in (Stored g part) f = if g.0 == f then Stored g part else Behind
+seen_in (Stored g doubleword) f = if g.0 == f then Stored g doubleword else Behind
 seen_in (Within word) f = Within word
 seen_in (At target) f = At target
 seen_in (Stop t) f = Stop t
@@ -69,14 +69,14 @@ IsLive frames f = slice_index frames (f % 32) ≡ f
 -- of stores only those to frames whose pages are known
 abbrev pub seen_live : Next → List ℕ → Next
 seen_live Behind frames = Behind
-seen_live (Stored g part) frames = if slice_index frames (g.0 % 32) == g.0 then Stored g part else Behind
+seen_live (Stored g doubleword) frames = if slice_index frames (g.0 % 32) == g.0 then Stored g doubleword else Behind
 seen_live (Within word) frames = Within word
 seen_live (At target) frames = At target
 seen_live (Stop t) frames = Stop t
 
--- the words of a frame are as they were, except for those of a part that was stored to
+-- the words of a frame are as they were, except for the two of a doubleword that was stored to
 abbrev pub KeepsWords : Next → ℕ → List (List ℕ) → List (List ℕ) → Type 0
-KeepsWords next f ram ram' = (k : ℕ) → (part_of next ≡ Some (k / 64) → ⊥)
+KeepsWords next f ram ram' = (k : ℕ) → (doubleword_of next ≡ Some (k / 2) → ⊥)
     → word_of ram' f (4 * k) 4 ≡ word_of ram f (4 * k) 4
 
 -- the same of each frame whose page is known
@@ -107,7 +107,7 @@ pub record Acts (held held' : Held) (meaning : Sight → Effect) (next : Next) (
   pub kept : IsKept held held' ram old.root.0
   pub count : length ram' ≡ length ram
 
--- it is done, and of each frame only a part is new that was stored to
+-- it is done, and of each frame only a doubleword is new that was stored to
 pub record Operates (held held' : Held) (meaning : Sight → Effect) (next : Next) (pc : ℕ) (old new : Hart)
     (ram ram' : List (List ℕ)) : Type 0 where
   pub acts : Acts held held' meaning next pc old new ram ram'

@@ -79,7 +79,7 @@ word_in ram f pc = number (bytes_at 4 pc (given ram f))
 -- of `words` words all are done, or some up to a jump or a store, or not all because of a trap
 abbrev pub MovesOn : ℕ → ℕ → Next → Type 0
 MovesOn words done Behind = done ≡ words
-MovesOn words done (Stored f part) = 0 < done
+MovesOn words done (Stored f doubleword) = 0 < done
 MovesOn words done (Within word) = 0 < done
 MovesOn words done (At target) = 0 < done
 MovesOn words done (Stop t) = done < words

@@ -12,7 +12,7 @@ ghost use Rattle.hart.specs.Stops.{pc_at};
 ghost use Rattle.hart.specs.Operations.{by_branch, by_registers, by_words, offset_by, op_by};
 
 use crate::access::{is_aligned, load_size, load_value, locate, place, store_size, store_value};
-use crate::in_page::{InPage, Part, Pc};
+use crate::in_page::{Doubleword, InPage, Pc};
 use crate::live::Live;
 use crate::operation::{Op, Target};
 use crate::state::Hart;
@@ -62,12 +62,12 @@ impl Aligned {
     }
 }
 
-/// Where a hart goes on: at the next instruction, also after a store to a part of a frame, or at a word of the same
-/// page, or at an address, or nowhere, since a trap was raised.
+/// Where a hart goes on: at the next instruction, also after a store to a doubleword of a frame, or at a word of the
+/// same page, or at an address, or nowhere, since a trap was raised.
 #[derive(Clone, Copy)]
 pub enum Next {
     Behind,
-    Stored(FrameNo, Part),
+    Stored(FrameNo, Doubleword),
     Within(InPage),
     At(Aligned),
     Stop(Trap),
@@ -96,9 +96,9 @@ impl Next {
     {
         match self {
             Next::Behind => Next::Behind,
-            Next::Stored(g, part) => {
+            Next::Stored(g, stored) => {
                 if live.has(g.0) {
-                    Next::Stored(g, part)
+                    Next::Stored(g, stored)
                 } else {
                     Next::Behind
                 }
@@ -109,14 +109,15 @@ impl Next {
         }
     }
 
-    /// The frame and its part that were stored to.
+    /// The frame that was stored to, and the index of the first word of the doubleword there.
     #[inline(always)]
-    pub fn stored(&self) -> Option<(FrameNo, Part)>
-        ensures { result ≡ store_of self.now }
+    pub fn stored(&self) -> Option<(FrameNo, usize)>
+        ensures is { result ≡ store_of self.now }
+        ensures place { IfSome result (λ r. (r.1 % 2 ≡ 0) × (r.1 + 2 ≤ 1024)) }
     {
         match *self {
             Next::Behind => None,
-            Next::Stored(f, part) => Some((f, part)),
+            Next::Stored(f, stored) => Some((f, stored.word())),
             Next::Within(_) => None,
             Next::At(_) => None,
             Next::Stop(_) => None,
@@ -335,7 +336,7 @@ impl Hart {
             Some(f) => {
                 ram.frames_are_whole();
                 store_value(op, ram, f, place(address), value);
-                Next::Stored(f, Part::of(address))
+                Next::Stored(f, Doubleword::of(address))
             }
         }
     }

@@ -28,16 +28,6 @@ impl Model for Part {
 }
 
 impl Part {
-    /// That of an address.
-    #[inline(always)]
-    pub fn of(address: u64) -> Part
-        ensures { result ≡ address % 4096 / 256 }
-    {
-        Part {
-            number: (address % 4096 / 256) as usize,
-        }
-    }
-
     /// That of word `k`.
     #[inline(always)]
     pub fn of_word(k: usize) -> Part
@@ -63,6 +53,45 @@ impl Part {
         ensures within { result ≤ 1024 }
     {
         PART * self.number + PART
+    }
+}
+
+/// Two words of a page at a multiple of 8 bytes, by their number: an aligned access lies in one of them.
+#[derive(Clone, Copy)]
+pub struct Doubleword {
+    number: usize,
+}
+
+impl Model for Doubleword {
+    ghost use Rattle.std.specs.Prelude.{ℕ, ◌<◌};
+
+    ghost Value = { ℕ };
+
+    ghost view = { λ d. d.number };
+
+    ghost invariant = { λ d. d.number < 512 };
+
+    ghost inverse = { λ n. record { number = n } };
+}
+
+impl Doubleword {
+    /// That of an address.
+    #[inline(always)]
+    pub fn of(address: u64) -> Doubleword
+        ensures { result ≡ address % 4096 / 8 }
+    {
+        Doubleword {
+            number: (address % 4096 / 8) as usize,
+        }
+    }
+
+    /// The index of its first word.
+    #[inline(always)]
+    pub fn word(self) -> usize
+        ensures is { result ≡ 2 * self }
+        ensures within { result + 2 ≤ 1024 }
+    {
+        2 * self.number
     }
 }
 

@@ -1,5 +1,6 @@
 //! The decoded words of a page.
-ghost use Rattle.std.specs.Prelude.{◌≡◌, ◌<◌, ◌≤◌, ◌+◌, ◌*◌, ◌/◌, ◌⊎◌, ℕ, List, length, slice_index, true};
+ghost use Rattle.std.specs.Prelude.{◌≡◌, ◌≢◌, ◌<◌, ◌≤◌, ◌+◌, ◌*◌, ◌/◌, ◌%◌, ◌⊎◌, ℕ, List, length, slice_index, true};
+ghost use Rattle.ram.specs.Memory.{word_of};
 ghost use Rattle.hart.specs.Acts.{IsLive, KeepsLive};
 ghost use Rattle.hart.specs.Checked.{AreChecked, AreNow, StayLive};
 ghost use Rattle.hart.specs.Operations.{AreDecoded, AreOps};
@@ -68,7 +69,23 @@ impl Page {
         same
     }
 
-    // Decodes those of these words anew that are others in a frame.
+    // Decodes those of some words anew that are others in a frame.
+    #[cold]
+    #[inline(never)]
+    fn renew_all(&mut self, ram: &Ram, f: FrameNo, from: usize, to: usize)
+        requires frame { f.0 < length ram.now }
+        requires place { (from ≤ to) × (to ≤ 1024) }
+        ensures now { AreNow self.new.words ram.now f.0 from to }
+        ensures others { (k : ℕ) → (k < from) ⊎ (to ≤ k) →
+            slice_index self.new.words k ≡ slice_index self.old.words k }
+        ensures parts { self.new.parts ≡ self.old.parts }
+    {
+        for k in from..to {
+            self.renew(k, ram.load_u32(f, 4 * k));
+        }
+    }
+
+    // The same of as many words as a part has.
     fn refresh(&mut self, ram: &Ram, f: FrameNo, from: usize)
         requires frame { f.0 < length ram.now }
         requires place { from + 64 ≤ 1024 }
@@ -80,9 +97,7 @@ impl Page {
         if self.has(ram, f, from) {
             return;
         }
-        for k in from..from + PART {
-            self.renew(k, ram.load_u32(f, 4 * k));
-        }
+        self.renew_all(ram, f, from, from + PART);
     }
 
     /// The part of word `k`. Its decoded words are those of the frame: they are checked if that is not known.
@@ -115,21 +130,37 @@ impl Page {
         self.parts[part] = true;
     }
 
-    /// Forgets what was stored to: a part of the page, which has frame `f`, or another page that is known, and with it
-    /// all that are known but this.
+    // Decodes word `k` and the next one anew after a store to them, if the words of their part are known.
     #[inline(always)]
-    pub fn heed(&mut self, f: FrameNo, next: &Next, live: &mut Live)
-        requires { IsLive live.old.frames f.0 }
-        ensures live { IsLive live.new.frames f.0 }
-        ensures checked { (ram : List (List ℕ)) (ram' : List (List ℕ)) →
-            KeepsLive next.now live.old.frames ram ram' → AreChecked self.old.words ram f.0 self.old.parts →
-            AreChecked self.new.words ram' f.0 self.new.parts }
-        ensures others { (ram : List (List ℕ)) (ram' : List (List ℕ)) →
-            KeepsLive next.now live.old.frames ram ram' → StayLive f.0 live.old.frames live.new.frames ram ram' }
+    fn renew_stored(&mut self, ram: &Ram, f: FrameNo, k: usize)
+        requires frame { f.0 < length ram.now }
+        requires place { (k % 2 ≡ 0) × (k + 2 ≤ 1024) }
+        ensures checked { (before : List (List ℕ)) →
+            ((j : ℕ) → j / 2 ≢ k / 2 → word_of ram.now f.0 (4 * j) 4 ≡ word_of before f.0 (4 * j) 4) →
+            AreChecked self.old.words before f.0 self.old.parts →
+            AreChecked self.new.words ram.now f.0 self.new.parts }
     {
-        if let Some((g, part)) = next.stored() {
+        if self.parts[k / PART] {
+            self.renew_all(ram, f, k, k + 2);
+        }
+    }
+
+    /// After a store, if there was one: words of the page, which has frame `f`, are decoded anew where it stored to
+    /// them. A store to another page that is known has all forgotten but this.
+    #[inline(always)]
+    pub fn heed(&mut self, ram: &Ram, f: FrameNo, next: &Next, live: &mut Live)
+        requires frame { f.0 < length ram.now }
+        requires live { IsLive live.old.frames f.0 }
+        ensures live { IsLive live.new.frames f.0 }
+        ensures checked { (before : List (List ℕ)) → KeepsLive next.now live.old.frames before ram.now →
+            AreChecked self.old.words before f.0 self.old.parts →
+            AreChecked self.new.words ram.now f.0 self.new.parts }
+        ensures others { (before : List (List ℕ)) → KeepsLive next.now live.old.frames before ram.now →
+            StayLive f.0 live.old.frames live.new.frames before ram.now }
+    {
+        if let Some((g, k)) = next.stored() {
             if g.0 == f.0 {
-                self.parts[part.number()] = false;
+                self.renew_stored(ram, f, k);
             } else {
                 live.keep_only(f.0);
             }

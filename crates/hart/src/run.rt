@@ -281,7 +281,7 @@ impl Hart {
             let (done, next) = self.straight::<T, [S; LEAST], LEAST>(
                 page, part, f, live, base, k, end, ram, trans,
             );
-            page.heed(f, &next, live);
+            page.heed(ram, f, &next, live);
             left -= done;
             let at = k + done;
             let Some((index, stretches)) = onward(stops, base, at, &next, free) else {

@@ -85,6 +85,63 @@ over:   bne s0, zero, place
 word:   addi a0, a0, 2
 ";
 
+// Two words over two instructions of a loop, by one store a round.
+const PAIR: &str = "
+        la s0, place
+        la s1, words
+        ld s1, 0(s1)
+        addi s2, zero, 20
+place:  addi a0, a0, 1
+        addi a0, a0, 2
+        sd s1, 0(s0)
+        addi s2, s2, -1
+        bne s2, zero, place
+        li a7, 2
+        ecall
+words:  addi a0, a0, 16
+        addi a0, a0, 32
+";
+
+// A loop that adds up in memory, right after its own words.
+const SUM: &str = "
+        la s0, sum
+        addi s1, zero, 100
+again:  ld a0, 0(s0)
+        add a0, a0, s1
+        sd a0, 0(s0)
+        addi s1, s1, -1
+        bne s1, zero, again
+        li a7, 2
+        ecall
+        .zero 4
+sum:    .zero 8
+";
+
+// A word over instructions 256 bytes before and after those that write it: each ran, and runs again.
+const NEIGHBOURS: &str = "
+        la s0, before
+        la s1, after
+        la s2, word
+        lw s2, 0(s2)
+        addi s3, zero, 20
+        j round
+before: addi a0, a0, 1
+        ret
+        .zero 256
+round:  jalr ra, 0(s0)
+        jalr ra, 0(s1)
+        sw s2, 0(s0)
+        sw s2, 0(s1)
+        addi s3, s3, -1
+        bne s3, zero, round
+        li a7, 2
+        ecall
+        .zero 256
+after:  addi a0, a0, 2
+        ret
+word:   addi a0, a0, 16
+";
+
 // A word over an instruction of another page that ran, to which the program jumps again.
 const OTHER_PAGE: &str = "
         la s0, place
@@ -239,7 +296,7 @@ place:  addi a0, a0, 0
         .zero 262144
 ";
 
-static ROWS: [Row; 9] = [
+static ROWS: [Row; 12] = [
     Row {
         text: NEXT,
         steps: 19,
@@ -254,6 +311,21 @@ static ROWS: [Row; 9] = [
         text: LOOP,
         steps: 411,
         status: 150,
+    },
+    Row {
+        text: PAIR,
+        steps: 109,
+        status: 915,
+    },
+    Row {
+        text: SUM,
+        steps: 506,
+        status: 5050,
+    },
+    Row {
+        text: NEIGHBOURS,
+        steps: 212,
+        status: 611,
     },
     Row {
         text: OTHER_PAGE,

@@ -25,7 +25,8 @@ pub use Rattle.byteorder.specs.Endian.{little_number}
 pub use Rattle.imagerules.proofs.Bounds.{bit-inside, bitmap-low, direct-high, direct-low, HasInode-at, HasPlace-at}
 pub use Rattle.imagerules.proofs.Bounds.{inodes-least, inodes-most, length-is, size-most, super-is, up_to_more}
 pub use Rattle.imagerules.proofs.Spelling.{image_of-blocks, image_of-more, place-free, place-taken, slot-places_in}
-pub use Rattle.imagerules.proofs.Denoting.{contents-long, Denotes-from, first_named}
+pub use Rattle.imagerules.proofs.Denoting.{contents-long, Denotes-from}
+pub use Rattle.imagerules.proofs.Paths.{first_named}
 pub use Rattle.imagerules.proofs.Marking.{blocks_of-free, blocks_of-used, HasMarks-none, named_before, named_before-all}
 pub use Rattle.imagerules.proofs.Marking.{named_before-front, named_before-more, range-split, length-data_blocks}
 pub use Rattle.imagerules.proofs.Marking.{unused_more, used_more, All-data_blocks, FitsAddresses-at, HasAddresses-from}

@@ -14,9 +14,9 @@ use Rattle.imagerules.proofs.Marking.{All-flat_map, All-from_flat_map, All-from_
 use Rattle.std.proofs.lemmas.Bool.{eq-eqb, eqb-true, ne_eqb}
 use Rattle.unixmodel.specs.Files.{find, entry_number, Files, follow, live_places, lookup, parts}
 use Rattle.imagecheck.proofs.Entering.{behind_dots, each_named, holds_named, holds_taken}
-use Rattle.layout.proofs.GrowLemmas.{zero_at}
+use Rattle.layout.proofs.SoundLemmas.{zero_at}
 use Rattle.std.proofs.Common.{option_and_then, position, slice_index, ◌⊎◌}
-use Rattle.imagerules.proofs.Denoting.{find-empty, find-root, find-slash, first_named-is, IsGiven-name}
+use Rattle.imagerules.proofs.Paths.{find-empty, find-root, find-slash, first_named-is, IsGiven-name}
 
 -- ---- entries and parents
 

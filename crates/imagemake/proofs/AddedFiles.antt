@@ -7,7 +7,8 @@ use Rattle.imagemake.proofs.Common.{taken_by, Files, Node, blocks_for, longest, 
 use Rattle.imagemake.proofs.Common.{appended, if_room, is_short, linked, node_for, CanAdd, HasDirectory, Puts}
 use Rattle.imagemake.proofs.Common.{StoreFault, blocks_of, Directory, Thing, IsWhole, taken-grows, PutsName, Stores}
 use Rattle.imagemake.proofs.MadeEntry.{above, added-is, apart, entry, here, linked-directory, named}
-use Rattle.imagemake.proofs.Putting.{linked-size, Owns-after, told_err, TellsFull-weaker}
+use Rattle.imagemake.proofs.Filling.{linked-size}
+use Rattle.imagemake.proofs.Putting.{Owns-after, told_err, TellsFull-weaker}
 
 -- ---- three tests
 

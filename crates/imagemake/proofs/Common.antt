@@ -42,11 +42,12 @@ pub use Rattle.name_rules.proofs.Finding.{change-is, position-None, IsGap}
 pub use Rattle.name_rules.proofs.Quiet.{HasLinked}
 pub use Rattle.name_rules.specs.Rules.{KeepsLive, KeepsTree, names_for}
 unfoldable pub use Rattle.name_rules.specs.Rules.{folders, names_by}
-pub use Rattle.tree.proofs.Following.{end-lost, IsNow, lost-served, now-begin, now-changed, now-files, now-limit}
-pub use Rattle.tree.proofs.Following.{now-read, now-turned, now-up, some-now, turned-last}
+pub use Rattle.tree.proofs.Following.{end-lost, IsNow, now-begin, now-files, now-limit, now-read, now-turned, now-up}
+pub use Rattle.tree.proofs.Following.{some-now}
+pub use Rattle.tree.proofs.Ending.{lost-served, now-changed, turned-last}
 pub use Rattle.tree.proofs.Places.{blocks_of-entered, entered-is, room-end, enter-room, none-not}
 pub use Rattle.tree.proofs.Storing.{blocks_of-set, files-are, held-again, slot-within, taken_by, whole-node}
-pub use Rattle.tree.proofs.Storing.{number-lowest, taken-grows}
+pub use Rattle.tree.proofs.Stored.{number-lowest, taken-grows}
 unfoldable pub use Rattle.tree.specs.Entering.{entered, room_in}
 pub use Rattle.tree.specs.Tree.{FileTree, HasFiles, Looks, tree_with}
 pub use Rattle.unixmodel.specs.Files.{blocks_for, change_node, dot, dot_dot, Files, is_directory, kind_of, links_of}

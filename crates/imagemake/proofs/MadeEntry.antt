@@ -13,9 +13,10 @@ use Rattle.imagemake.proofs.Common.{filter, get_or, not, cases_lt, length-filter
 use Rattle.imagemake.proofs.Common.{below-slot, filter_passes, names_by, names_by-le, is_some, eq-eqb}
 use Rattle.unixmodel.specs.NameCalls.{Made, make_at}
 use Rattle.name_rules.specs.Changes.{Changed}
-use Rattle.name_rules.proofs.Changing.{makes-directory, makes-file}
+use Rattle.name_rules.proofs.Adding.{makes-directory, makes-file}
 use Rattle.imagemake.proofs.FromRules.{KeepsTree-rules, linked-rules, KeepsRules-live, twice, directory-once}
-use Rattle.imagemake.proofs.Putting.{placed-end, room-end-at, packed-node, packed-more}
+use Rattle.imagemake.proofs.Filling.{placed-end, room-end-at, packed-more}
+use Rattle.imagemake.proofs.Putting.{packed-node}
 use Rattle.std.proofs.lemmas.List.Filters.{sum_by-filter_both}
 use Rattle.indexmap.proofs.IndexTableLemmas.Probe.{pigeonhole}
 

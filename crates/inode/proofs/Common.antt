@@ -20,11 +20,12 @@ pub use Rattle.cache.proofs.Using.{goes-after, goes-stays, goes-twice, read-done
 pub use Rattle.cache.proofs.Using.{step-last}
 pub use Rattle.cache.specs.Disk.{Disk}
 pub use Rattle.cache.specs.Steps.{AsBefore, Goes, Reads, Steps}
-pub use Rattle.layout.proofs.GrowLemmas.{asks_none, data_from, get_or-bytes_of, get_or-nodes_of, Grows-bytes}
-pub use Rattle.layout.proofs.GrowLemmas.{Grows-keeps, Grows-node, Grows-same, Grows-sound, HasParts-kept}
-pub use Rattle.layout.proofs.GrowLemmas.{HoldsBytes-same, InData, IsSound-replace, IsSoundAt, KeepsOthers}
-pub use Rattle.layout.proofs.GrowLemmas.{length-bytes_of, length-nodes_of, mark, node_at-none, node_at-some}
-pub use Rattle.layout.proofs.GrowLemmas.{nodes_of-changed, PutsBlock, PutsBlock-write, record_in, spare_none, zero_at}
+pub use Rattle.layout.proofs.SoundLemmas.{asks_none, Grows-bytes, Grows-keeps, Grows-node, Grows-same, Grows-sound}
+pub use Rattle.layout.proofs.SoundLemmas.{HoldsBytes-same, spare_none, zero_at}
+pub use Rattle.layout.proofs.GrowLemmas.{data_from, get_or-bytes_of, get_or-nodes_of, HasParts-kept, InData}
+pub use Rattle.layout.proofs.GrowLemmas.{IsSound-replace, IsSoundAt, KeepsOthers, length-bytes_of, length-nodes_of}
+pub use Rattle.layout.proofs.GrowLemmas.{mark, node_at-none, node_at-some, nodes_of-changed, PutsBlock, PutsBlock-write}
+pub use Rattle.layout.proofs.GrowLemmas.{record_in}
 pub use Rattle.layout.proofs.ReadsBack.{number_at-take}
 pub use Rattle.layout.proofs.Slots.{address-once, address-within, asked_apart, asked_asks, asks_asked, asks_at}
 pub use Rattle.layout.proofs.Slots.{asks_below, asks_holder, count-begins, count-last, first-data, holder-first}

@@ -12,8 +12,9 @@ use Rattle.inode.specs.Finding.{IsFound}
 use Rattle.inode.specs.declared.find.Found.{Found}
 use Rattle.inode.specs.declared.write.Outcome.TheVariants.{Written}
 use Rattle.inode.proofs.Filling.{inside_kept, inside_prepared, Puts-record}
-use Rattle.inode.proofs.Growing.{own_fits, own_length, HasInode-read, block-bytes, found_in, found_own, holder_lies}
-use Rattle.inode.proofs.Growing.{slot_in_disk, slot_in_hand}
+use Rattle.inode.proofs.Growing.{own_fits, own_length}
+use Rattle.inode.proofs.Reading.{HasInode-read, block-bytes, found_in, found_own, holder_lies, slot_in_disk}
+use Rattle.inode.proofs.Reading.{slot_in_hand}
 use Rattle.layout.specs.Numbers.{numbers_in}
 use Rattle.layout.proofs.ReadsBack.{get_or-numbers_in, length-numbers_in, number_at-fits}
 use Rattle.unixmodel.specs.Slots as place

@@ -36,7 +36,7 @@ pub use Rattle.files.specs.Places.{closed, count_at, count_in, Counted, file_at,
 pub use Rattle.files.specs.Places.{moved_in, moved_to, opened, opens_of, place_from, shared}
 pub use Rattle.name_rules.proofs.Finding.{slot-within}
 pub use Rattle.name_rules.specs.Rules.{KeepsTree}
-pub use Rattle.proc.proofs.Waiting.{found-any, next-same}
+pub use Rattle.proc.proofs.Seats.{found-any, next-same}
 pub use Rattle.proc.specs.Mask.{is_in}
 pub use Rattle.proc.specs.Pick.{Answers, Picks, place_in_round}
 pub use Rattle.proc.specs.Places.{changed, changed_at, exited, has_pid, is_zombie_child_of, orphaned, place_where}

@@ -17,15 +17,17 @@ use Rattle.kernel.proofs.Changes.{other-at}
 use Rattle.kernel.proofs.Holding.{home-folder, used-child, used-shared, Fds, Processes}
 use Rattle.kernel.proofs.Named.{counted-forked, kept-all_shared, opens-all_shared}
 use Rattle.kernel.proofs.Joined.{put-joined, file-shared, waits-fewer, free_slot-joined}
-use Rattle.kernel.proofs.Runs.{over-stands, IsRun, home-running, runs-set, slot-other, slot-put, stands-set, state-run}
-use Rattle.kernel.proofs.Runs.{with_process, within-space, live, moved, moved-kernel, moved-state, set-slot}
+use Rattle.kernel.proofs.Reaping.{over-stands}
+use Rattle.kernel.proofs.Runs.{IsRun, home-running, runs-set, slot-other, slot-put, stands-set, state-run, with_process}
+use Rattle.kernel.proofs.Runs.{within-space, live, moved, moved-kernel, moved-state, set-slot}
 use Rattle.kernel.proofs.Memories.{reheld-kernel, reheld-state}
-use Rattle.kernel.proofs.Steps.{held-run, placed-with, counting-kernel}
+use Rattle.kernel.proofs.Steps.{held-run, placed-with}
+use Rattle.kernel.proofs.Ending.{counting-kernel}
 use Rattle.kernel.proofs.Turning.{Runner, me_of, runner-of}
 use Rattle.kernel.proofs.Watching.{kernel-waking, watched-roused}
 use Rattle.kernel.proofs.Working.{folder-there}
 use Rattle.name_rules.proofs.Counts.{none-is}
-use Rattle.proc.proofs.Waiting.{IsSeat, seat-is}
+use Rattle.proc.proofs.Seats.{IsSeat, seat-is}
 use Rattle.proc.specs.Places as table
 use Rattle.unixmodel.specs.OpenFiles.{OpenFile}
 use Rattle.unixmodel.specs.ProcessCalls as rows

@@ -13,7 +13,8 @@ use Rattle.kernel.proofs.Common.{has_space, view_at, taken_frames, frames_of, pl
 use Rattle.kernel.proofs.Common.{position_or_len-set, length, nat_lt, not, ◌&&◌, is_none, drop, list_any}
 use Rattle.kernel.proofs.Common.{position_or_len, le-ltb, lt-ltb, position_or_len_is, is_at, joined, found-any, running}
 use Rattle.files.specs.Places.{has_pipe}
-use Rattle.kernel.proofs.Runs.{state-idle, frames-with, match-loaded, opened-loaded, place-space, run-of, slot-within}
+use Rattle.kernel.proofs.Runs.{state-idle, place-space, run-of, slot-within}
+use Rattle.kernel.proofs.Reaping.{frames-with, match-loaded, opened-loaded}
 use Rattle.unixmodel.specs.OpenFiles.{OpenFile, Target}
 use Rattle.unixmodel.specs.Turn as turn
 use Rattle.kernel.proofs.Joined.{place_where-joined, slot-joined, zombie_child-with_table, active-by, count-joined}

@@ -21,7 +21,7 @@ pub use Rattle.files.specs.Meant.{file_of}
 pub use Rattle.files.specs.Places.{count_at, count_in, Counted, opened, opens_of, place_for}
 pub use Rattle.imagerules.specs.Content.{image_of}
 pub use Rattle.kernel.proofs.Joined.{joined-free_slots, seat_of-first}
-pub use Rattle.kernel.proofs.Watching.{watched-all}
+pub use Rattle.kernel.proofs.Asleep.{watched-all}
 pub use Rattle.kernel.specs.Descriptors.{IsCounted, named_by, names_in}
 pub use Rattle.kernel.specs.Holding.{files_on, FitsNode, home_in, homes_at, IsFolder, IsInUse, node_in, node_of}
 pub use Rattle.kernel.specs.Holding.{node_on}

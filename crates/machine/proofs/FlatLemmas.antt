@@ -1,33 +1,29 @@
--- A flat program in memory, and the state and the kernel that begin with it.
-use Rattle.machine.proofs.Common.{[], all_in, alone, ap, arith, Bool, BootFault, ceil_div, count_at, count_in, Counted}
-use Rattle.machine.proofs.Common.{Err, false, file_of, Files, files_on, FileTree, first, first_kernel, first_process}
-use Rattle.machine.proofs.Common.{first_state, FitsNode, flat_space, FrameCount, free_slots, has_space, holders, holds}
-use Rattle.machine.proofs.Common.{home_in, homes_at, if_fits, IfOk, IfSome, is_running, is_some, IsCounted, IsErrOf}
-use Rattle.machine.proofs.Common.{IsFlat, IsFolder, IsInUse, IsKernel, IsOpened, IsOpenFile, IsPlace, IsPlaced, joined}
-use Rattle.machine.proofs.Common.{joined-free_slots, le, length, length-append, length-replicate, List, named_by, names}
-use Rattle.machine.proofs.Common.{names-free, names_in, nat_tests, no_pages, no_spaces, node_in, node_of, node_on}
-use Rattle.machine.proofs.Common.{NoInit, NoMemory, None, none-some, Ok, one_in, OnErr, opened, opens_of, Option}
-use Rattle.machine.proofs.Common.{option_map, page_frames, pages_of, place_for, Plan, Process, refl, replicate, Result}
-use Rattle.machine.proofs.Common.{round_down, same_Some, seated, slot, slot-opens, Some, Spaces, SpaceView, stack_marks}
-use Rattle.machine.proofs.Common.{stacked, State, state_of, subst, suc, sum_by, sum_by-cons, sum_by-replicate, sym}
-use Rattle.machine.proofs.Common.{taken_frames, true, WaitsWell, with_args, with_hold, with_view, write_bytes, zero}
-use Rattle.machine.proofs.Common.{zeros, ℕ, ◌*◌, ◌++◌, ◌+◌, ◌-◌, ◌/◌, ◌<◌, ◌==◌, ◌↔◌, ◌∙◌, ◌∷◌, ◌≡◌, ◌≢◌, ◌≤◌, ◌⊎◌}
+-- A flat program's stack, and the state and the kernel that begin with it.
+use Rattle.machine.proofs.Common.{[], all_in, alone, ap, arith, ceil_div, count_at, count_in, Counted, false, file_of}
+use Rattle.machine.proofs.Common.{Files, files_on, FileTree, first, first_kernel, first_process, first_state, FitsNode}
+use Rattle.machine.proofs.Common.{flat_space, free_slots, holders, holds, home_in, homes_at, if_fits, IfOk, IfSome}
+use Rattle.machine.proofs.Common.{is_running, is_some, IsCounted, IsFlat, IsFolder, IsInUse, IsKernel, IsOpened}
+use Rattle.machine.proofs.Common.{IsOpenFile, IsPlace, IsPlaced, joined, joined-free_slots, le, length, length-append}
+use Rattle.machine.proofs.Common.{length-replicate, List, named_by, names, names-free, names_in, nat_tests, node_in}
+use Rattle.machine.proofs.Common.{node_of, node_on, None, none-some, Ok, one_in, opened, opens_of, Option, option_map}
+use Rattle.machine.proofs.Common.{page_frames, pages_of, place_for, Plan, Process, refl, replicate, Result, round_down}
+use Rattle.machine.proofs.Common.{same_Some, seated, slot, slot-opens, Some, SpaceView, stack_marks, stacked, State}
+use Rattle.machine.proofs.Common.{state_of, subst, suc, sum_by, sum_by-cons, sum_by-replicate, sym, taken_frames, true}
+use Rattle.machine.proofs.Common.{WaitsWell, with_args, with_hold, write_bytes, zero, zeros, ℕ, ◌*◌, ◌+◌, ◌-◌, ◌<◌}
+use Rattle.machine.proofs.Common.{◌==◌, ◌∙◌, ◌∷◌, ◌≡◌, ◌≢◌, ◌≤◌}
 use Rattle.unixmodel.specs.Plan.{plan_flat, push, push_pointers, push_strings, with_stack}
 use Rattle.unixmodel.specs.Memory.{Memory, overwrite, Perm, zero_page}
 use Rattle.std.proofs.lemmas.Bool.{le-leb, lt-leb}
-use Rattle.spaces.specs.Spaces.{frames_in, grown, view_at, written}
+use Rattle.spaces.specs.Spaces.{frames_in}
 use Rattle.unixmodel.specs.Start.{flat_descriptors, flat_files, flat_opens, start_flat}
 use Rattle.unixmodel.specs.Counts.{blocks_of, frames_of}
-use Rattle.machine.specs.Flat.{bare_plan, console_file, first_files, first_table, first_tree, flat_memory, LoadsFlat}
-use Rattle.machine.specs.Flat.{RefusesFlat}
-use Rattle.std.proofs.Common.{append_assoc, ap₂, get_or, inl, inr, nat_le}
+use Rattle.machine.specs.Flat.{bare_plan, console_file, first_files, first_table, first_tree, flat_memory}
+use Rattle.std.proofs.Common.{ap₂, get_or, nat_le}
 use Rattle.files.specs.declared.file.OpenFile.{OpenFile}
 use Rattle.files.specs.declared.table.FileFault.{FileFault}
 use Rattle.kernel.specs.Kernel.{begun as begun_by}
 use Rattle.programs.proofs.Headings.{length-pages}
-use Rattle.programs.proofs.Places.{filled, page_frames-more}
 use Rattle.programs.proofs.Stacks.{write-stack}
-use Rattle.std.specs.Bool.{OnFalse, OnTrue}
 use Rattle.unixmodel.specs.OpenFiles as unix_files
 use Rattle.unixmodel.specs.Process as unix
 
@@ -59,13 +55,13 @@ length-with_stack : (pages : Memory) → length (with_stack pages) ≡ length pa
 unfolding with_stack
 length-with_stack pages = length-append pages (zero_page (stack_marks false) ∷ zero_page (stack_marks true) ∷ [])
 
-abbrev all_marks : Perm
+abbrev pub all_marks : Perm
 all_marks = record { writable = true; executable = true; user = true; shared = false }
 
-abbrev program_pages : List ℕ → ℕ
+abbrev pub program_pages : List ℕ → ℕ
 program_pages bytes = ceil_div (length bytes) 4096
 
-abbrev flat_pages : List ℕ → Memory
+abbrev pub flat_pages : List ℕ → Memory
 flat_pages bytes = pages_of all_marks (program_pages bytes) bytes
 
 pub length-flat : (bytes : List ℕ) → length (flat_memory bytes) ≡ program_pages bytes + 2
@@ -332,166 +328,3 @@ pub one-seated : (p : Process)
     ≡ record { places = Some (record p { pid = 1 }) ∷ free_slots 63; last = 63; next_pid = 2; awake = all_in 64 }
 unfolding free_slots
 one-seated p = refl
-
--- ---- the space as it is made: the pages of the program, its bytes in them, the guard page, the stack
-
-abbrev pub segment : List ℕ → SpaceView
-segment bytes = record {
-  memory = replicate (program_pages bytes) (zero_page all_marks);
-  size = program_pages bytes * 4096;
-}
-
-abbrev pub filled_segment : List ℕ → SpaceView
-filled_segment bytes = record { memory = flat_pages bytes; size = program_pages bytes * 4096 }
-
-abbrev pub guarded : List ℕ → SpaceView
-guarded bytes = record {
-  memory = flat_pages bytes ++ zero_page (stack_marks false) ∷ [];
-  size = program_pages bytes * 4096 + 4096;
-}
-
-segment-is : (bytes : List ℕ) (b : ℕ) → b ≡ program_pages bytes * 4096 → grown no_pages b all_marks ≡ segment bytes
-segment-is bytes b is =
-    let n : ceil_div (0 + b) 4096 - ceil_div 0 4096 ≡ program_pages bytes = omega (arith, is) in
-    let size : 0 + b ≡ program_pages bytes * 4096 = omega (arith, is) in
-    rw (n, size) refl
-
-filled-is : (bytes : List ℕ) → written (segment bytes) 0 bytes ≡ filled_segment bytes
-filled-is bytes = ap (λ (memory : Memory).
-    let h : SpaceView = record { memory = memory; size = program_pages bytes * 4096 } in h)
-    (filled all_marks (program_pages bytes) bytes)
-
-guarded-is : (bytes : List ℕ) → grown (filled_segment bytes) 4096 (stack_marks false) ≡ guarded bytes
-guarded-is bytes =
-    let one : ceil_div (program_pages bytes * 4096 + 4096) 4096 - ceil_div (program_pages bytes * 4096) 4096 ≡ 1 =
-    omega arith in
-    rw one refl
-
-stacked-is : (bytes : List ℕ) → grown (guarded bytes) 4096 (stack_marks true) ≡ flat_space bytes
-unfolding with_stack
-stacked-is bytes =
-    let one : ceil_div (program_pages bytes * 4096 + 4096 + 4096) 4096 - ceil_div (program_pages bytes * 4096 + 4096)
-    4096 ≡ 1 = omega arith in
-    let size : program_pages bytes * 4096 + 4096 + 4096 ≡ 4096 * length (flat_memory bytes) =
-    omega (arith, length-flat bytes) in
-    let memory = append_assoc (flat_pages bytes) (zero_page (stack_marks false) ∷ [])
-    (zero_page (stack_marks true) ∷ []) in
-    rw (one, size) (ap (λ (memory : Memory).
-    let h : SpaceView = record { memory = memory; size = 4096 * length (flat_memory bytes) } in h) memory)
-
--- the space in slot 0 changes
-abbrev pub changed : Spaces → (SpaceView → SpaceView) → Spaces
-changed s change = with_view s 0 (change (view_at s 0))
-
-abbrev pub with_stack_page : Spaces → Spaces
-with_stack_page s = changed s (λ h. grown h 4096 (stack_marks true))
-
--- the changed space is put there, or would not fit
-module _ {frames : ℕ} {s : Spaces} {h new : SpaceView} (change : SpaceView → SpaceView) (is : s ≡ alone frames h)
-    (to : change h ≡ new) where
-  placed : {t : Spaces} → t ≡ changed s change → t ≡ alone frames new
-  placed done = rw (done, is, to) refl
-
-  takes : taken_frames (changed s change) ≡ 4 + page_frames (length new.memory)
-  takes = rw (is, to) (taken-alone frames new)
-
-  over : (bytes : List ℕ) → length new.memory ≤ length (flat_memory bytes) → s.frames < taken_frames (changed s change)
-      → frames < 4 + page_frames (length (flat_memory bytes))
-  over bytes less full = omega (
-    arith,
-    full,
-    takes,
-    ap (λ (x : Spaces). x.frames) is,
-    page_frames-more (length new.memory) (length (flat_memory bytes)) less,
-  )
-
--- the first slot of no spaces is free, and has a space where one is alone
-pub first-free : {frames : ℕ} {s : Spaces} → s ≡ no_spaces frames → has_space s 0 ≡ false
-first-free is = ap (λ (s : Spaces). has_space s 0) is
-
-pub alone-space : {frames : ℕ} {h : SpaceView} {s : Spaces} → s ≡ alone frames h → has_space s 0 ≡ true
-alone-space is = ap (λ (s : Spaces). has_space s 0) is
-
-pub flat-size : {frames size : ℕ} {s : Spaces} (bytes : List ℕ) → size ≡ (view_at s 0).size
-    → s ≡ alone frames (flat_space bytes) → size ≡ 4096 * length (flat_memory bytes)
-flat-size bytes told is = told ∙ ap (λ (s : Spaces). (view_at s 0).size) is
-
--- no spaces over that many frames
-pub frames-of : {frames : ℕ} {s : Spaces} → s ≡ no_spaces frames → s.frames ≡ frames
-frames-of is = ap (λ (x : Spaces). x.frames) is
-
-pub none-of : {frames : ℕ} {s : Spaces} → s ≡ no_spaces frames → s ≡ no_spaces s.frames
-none-of is = is ∙ ap no_spaces (sym (frames-of is))
-
-pub created : {frames : ℕ} {s t : Spaces} → s ≡ no_spaces frames → t ≡ with_view s 0 no_pages
-    → t ≡ alone frames no_pages
-created is done = done ∙ ap (λ (x : Spaces). with_view x 0 no_pages) is
-
-module _ (bytes : List ℕ) {frames : ℕ} {s : Spaces} where
-  pub segment-over : (b : ℕ) {none : Spaces} → b ≡ program_pages bytes * 4096 → none ≡ no_spaces frames
-      → s ≡ with_view none 0 no_pages → s.frames < taken_frames (with_view s 0 (grown (view_at s 0) b all_marks))
-      → frames < 4 + page_frames (length (flat_memory bytes))
-  segment-over b size is done full =
-      over (λ h. grown h b all_marks) (created is done) (segment-is bytes b size) bytes
-      (rw (length-flat bytes, length-replicate (program_pages bytes) (zero_page all_marks)) (omega arith)) full
-
-  pub segment-made : (b : ℕ) {none t : Spaces} → b ≡ program_pages bytes * 4096 → none ≡ no_spaces frames
-      → s ≡ with_view none 0 no_pages → t ≡ with_view s 0 (grown (view_at s 0) b all_marks)
-      → t ≡ alone frames (segment bytes)
-  segment-made b size is made done = placed (λ h. grown h b all_marks) (created is made) (segment-is bytes b size) done
-
-  pub filled-made : {t : Spaces} → s ≡ alone frames (segment bytes) → t ≡ with_view s 0 (written (view_at s 0) 0 bytes)
-      → t ≡ alone frames (filled_segment bytes)
-  filled-made is done = placed (λ h. written h 0 bytes) is (filled-is bytes) done
-
-  pub guard-made : {t : Spaces} → s ≡ alone frames (filled_segment bytes)
-      → t ≡ with_view s 0 (grown (view_at s 0) 4096 (stack_marks false)) → t ≡ alone frames (guarded bytes)
-  guard-made is done = placed (λ h. grown h 4096 (stack_marks false)) is (guarded-is bytes) done
-
-  pub guard-over : s ≡ alone frames (filled_segment bytes)
-      → s.frames < taken_frames (with_view s 0 (grown (view_at s 0) 4096 (stack_marks false)))
-      → frames < 4 + page_frames (length (flat_memory bytes))
-  guard-over is full =
-      over (λ h. grown h 4096 (stack_marks false)) is (guarded-is bytes) bytes
-      (rw (
-        length-flat bytes,
-        length-append (flat_pages bytes) (zero_page (stack_marks false) ∷ []),
-        length-pages all_marks (program_pages bytes) bytes,
-      ) (omega arith)) full
-
-  -- the bytes are within the pages
-  pub fill-inside : s ≡ alone frames (segment bytes) → (i : ℕ) → i < length bytes
-      → (0 + i) / 4096 < length (view_at s 0).memory
-  fill-inside is i less = rw (is, length-replicate (program_pages bytes) (zero_page all_marks)) (omega (arith, less))
-
--- whether there are frames for the page of the stack after the guard page
-pub flat-loaded : (bytes : List ℕ) (old s t : Spaces) → s ≡ alone old.frames (guarded bytes) → (r : Bool)
-    → OnTrue r ((taken_frames (with_stack_page s) ≤ s.frames) × (t ≡ with_stack_page s))
-    → OnFalse r ((s.frames < taken_frames (with_stack_page s)) × (t ≡ s)) → LoadsFlat bytes old t r
-flat-loaded bytes old s t is true done full =
-    let fits = takes (λ h. grown h 4096 (stack_marks true)) is (stacked-is bytes) in (
-      placed (λ h. grown h 4096 (stack_marks true)) is (stacked-is bytes) done.1,
-      omega (arith, done.0, fits, ap (λ (x : Spaces). x.frames) is),
-    )
-flat-loaded bytes old s t is false done full =
-    over (λ h. grown h 4096 (stack_marks true)) is (stacked-is bytes) bytes (omega arith) full.0
-
-pub outside : (frames : ℕ) → 64 ≤ frames → frames ≤ 32768 → (frames < 64) ⊎ (32768 < frames) → ⊥
-outside frames least most (inl low) = omega (arith, low, least)
-outside frames least most (inr high) = omega (arith, high, most)
-
--- where the count of frames is in range the fault isn't `FrameCount`
-pub counted-flat : {M : Type 0} (frames : ℕ) → 64 ≤ frames → frames ≤ 32768 → (r : Result M BootFault)
-    → OnErr r (IsErrOf r NoInit ⊎ IsErrOf r NoMemory) → IsErrOf r FrameCount ↔ ((frames < 64) ⊎ (32768 < frames))
-counted-flat {M} frames least most r only = (
-  λ e. absurd (other e (subst (λ (x : Result M BootFault). OnErr x (IsErrOf r NoInit ⊎ IsErrOf r NoMemory)) e
-      only)),
-  λ out. absurd (outside frames least most out),
-) where
-  other : IsErrOf r FrameCount → (IsErrOf r NoInit ⊎ IsErrOf r NoMemory) → ⊥
-  other e (inl i) = cc
-  other e (inr i) = cc
-
-pub only-flat : {M : Type 0} (r : Result M BootFault) → OnErr r (IsErrOf r NoInit ⊎ IsErrOf r NoMemory) → RefusesFlat r
-only-flat (Ok m) only = tt
-only-flat (Err f) only = inr only

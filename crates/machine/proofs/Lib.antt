@@ -1,5 +1,7 @@
 mod Common
 mod Steps
 mod FlatLemmas
+mod FlatSpaces
 mod Booting
+mod Beginning
 pub mod RunLemmas

@@ -16,8 +16,9 @@ pub use Rattle.inode.specs.Store.{Changes, is_device, IsFull, IsLaidOut, IsWhole
 pub use Rattle.inode.specs.Store.{Store, with_bytes, Writes}
 pub use Rattle.layout.proofs.GrowLemmas.{at_or, length-nodes_of}
 pub use Rattle.layout.specs.declared.Geometry.{Geometry}
-pub use Rattle.tree.proofs.Storing.{stored-after, taken-grows, blocks_of-set, files-are, held-again, held-none}
-pub use Rattle.tree.proofs.Storing.{length-held, Stores-set, sum-taken, taken_by, whole-node}
+pub use Rattle.tree.proofs.Stored.{stored-after, taken-grows}
+pub use Rattle.tree.proofs.Storing.{blocks_of-set, files-are, held-again, held-none, length-held, Stores-set, sum-taken}
+pub use Rattle.tree.proofs.Storing.{taken_by, whole-node}
 pub use Rattle.tree.specs.Stored.{FitsPlaces, IsRaw, IsStored, Stores}
 unfoldable pub use Rattle.tree.specs.Stored.{files_of}
 unfoldable pub use Rattle.unixmodel.specs.Counts.{blocks_of}

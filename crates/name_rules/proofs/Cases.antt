@@ -4,7 +4,8 @@ use Rattle.name_rules.proofs.Common.{Files, Node, Spot, dot, dot_dot, enter, era
 use Rattle.name_rules.proofs.Common.{with_entry, Directory, File, KeepsSize, all_entries, names_of, linked, made_at}
 use Rattle.name_rules.proofs.Common.{made_directory, make_at, unlinked, KeepsLive, KeepsTree, folders, names_by}
 use Rattle.name_rules.proofs.Common.{names_for}
-use Rattle.name_rules.proofs.Changing.{keeps-linked, keeps-made, keeps-made-directory, keeps-unlinked}
+use Rattle.name_rules.proofs.Adding.{keeps-linked, keeps-made, keeps-made-directory}
+use Rattle.name_rules.proofs.Dropping.{keeps-unlinked}
 use Rattle.name_rules.proofs.Quiet.{leaves, releases, writes-bytes}
 
 -- an entry, and the two that a directory begins with

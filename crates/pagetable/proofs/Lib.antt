@@ -1,4 +1,5 @@
 mod Common
 pub mod ShapeLemmas
 pub mod TreeLemmas
+pub mod WriteLemmas
 pub mod AgreeLemmas

@@ -10,9 +10,9 @@ use Rattle.pagetable.proofs.Common.{◌/◌, [], among, frame_of, free_of-same, 
 use Rattle.pagetable.proofs.Common.{IsFreeList-same, IsLast, length-set, no_table, replicate, Root, SameTables}
 use Rattle.pagetable.proofs.Common.{slice_set, true, ◌∷◌}
 use Rattle.pagetable.specs.Tree.{Maps}
-use Rattle.pagetable.proofs.TreeLemmas.{cases_node, free_count-taken, child_of-some, leaf_of-some, child_of-zero}
-use Rattle.pagetable.proofs.TreeLemmas.{entry_of-zeros, free-first, further-taken, low_is_node, mid_is_node, no_low}
-use Rattle.pagetable.proofs.TreeLemmas.{root_at}
+use Rattle.pagetable.proofs.TreeLemmas.{cases_node, child_of-some, leaf_of-some, child_of-zero, entry_of-zeros}
+use Rattle.pagetable.proofs.TreeLemmas.{low_is_node, mid_is_node, no_low, root_at}
+use Rattle.pagetable.proofs.WriteLemmas.{free_count-taken, free-first, further-taken}
 
 -- ---- a page is added
 

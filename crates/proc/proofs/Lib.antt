@@ -1,3 +1,4 @@
 mod Common
 pub mod Bits
 pub mod Waiting
+pub mod Seats

@@ -20,8 +20,8 @@ pub use Rattle.elf.specs.declared.ElfFault.{ElfFault}
 pub use Rattle.elf.specs.declared.ElfFault.TheVariants.{Align, Magic, Overlap, Short, Sizes}
 pub use Rattle.elf.specs.declared.FileHeader.{FileHeader}
 pub use Rattle.elf.specs.declared.LoadSegment.{LoadSegment}
-pub use Rattle.file_transfers.proofs.Memory.{HasRead, held-there, self-held, read-all, read-end, read-more, read-none}
-pub use Rattle.file_transfers.proofs.Memory.{size-fits, size-whole, space-within}
+pub use Rattle.file_transfers.proofs.Pieces.{HasRead, held-there, self-held, read-all, read-end, read-more, read-none}
+pub use Rattle.file_transfers.proofs.Pieces.{size-fits, size-whole, space-within}
 pub use Rattle.inode.specs.declared.InodeStat.{InodeStat}
 pub use Rattle.spaces.specs.Spaces.{frames_in, has_space, no_pages, Spaces, SpaceView, taken_frames, view_at, with_view}
 pub use Rattle.spaces.specs.Spaces.{written}

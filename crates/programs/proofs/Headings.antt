@@ -1,143 +1,21 @@
 -- What the headers of a program file say, as they are read one after the other.
-use Rattle.programs.proofs.Common.{◌++◌, ◌-◌, ap, arith, drop, Err, false, IsErrAnd, le_trans, length, List, Ok, refl}
-use Rattle.programs.proofs.Common.{Result, Some, subst, sym, ℕ, ◌∙◌, ◌≡◌, ◌≤◌, IfOk, min, OnErr, OnOk, part}
-use Rattle.programs.proofs.Common.{DeviceFault, InodeStat, FileTree, Serves, IsFile, Files, Node, node_bytes, slot}
-use Rattle.programs.proofs.Common.{file_at, Leaves, ◌%◌, ◌&&◌, ◌*◌, ◌+◌, ◌/◌, ◌<◌, ◌^◌, append-nil, Bool, length-append}
-use Rattle.programs.proofs.Common.{None, Option, replicate, suc, take, true, zero, ◌≢◌, le-leb, nat_tests, drop_all}
-use Rattle.programs.proofs.Common.{length-replicate, none-some, same_Some, ◌==◌, IfSome, if◌then◌else◌, nat_le}
-use Rattle.programs.proofs.Common.{option_and_then, option_map, slice_range, header_in-part, headers_by, loaded_by}
-use Rattle.programs.proofs.Common.{loads-header, loads-segment, segment_at-part, header_in, header_of, is_within}
-use Rattle.programs.proofs.Common.{segment_if, segment_shown, ElfFault, Magic, Short, FileHeader, LoadSegment, File}
-use Rattle.programs.proofs.Common.{Perm, zero_page, pages_of, ceil_div, number_at, load_segment, Loaded, loaded_of}
-use Rattle.programs.proofs.Common.{may_follow, nothing_loaded, Segment, segment_marks, with_segment, load_segments}
-use Rattle.programs.proofs.Common.{segment_at, segment_pages, file_bytes, bytes_or_none, end_behind, end_by, end_of}
-use Rattle.programs.proofs.Common.{headed, IsRead, program_in, segment_behind, TellsProgram, unless_refused, Program}
-use Rattle.std.proofs.lemmas.Result.{err_from_is_err_and}
+use Rattle.programs.proofs.Common.{◌-◌, ap, arith, Err, false, le_trans, length, List, Ok, refl, Result, Some, subst}
+use Rattle.programs.proofs.Common.{sym, ℕ, ◌∙◌, ◌≡◌, ◌≤◌, DeviceFault, InodeStat, FileTree, Serves, IsFile, Files, Node}
+use Rattle.programs.proofs.Common.{slot, file_at, ◌%◌, ◌&&◌, ◌*◌, ◌+◌, ◌/◌, ◌<◌, ◌^◌, Bool, length-append, None, Option}
+use Rattle.programs.proofs.Common.{replicate, suc, take, true, zero, ◌≢◌, le-leb, nat_tests, length-replicate}
+use Rattle.programs.proofs.Common.{none-some, same_Some, ◌==◌, if◌then◌else◌, nat_le, option_and_then, option_map}
+use Rattle.programs.proofs.Common.{slice_range, header_in-part, headers_by, loaded_by, loads-header, loads-segment}
+use Rattle.programs.proofs.Common.{segment_at-part, header_in, header_of, is_within, segment_if, segment_shown}
+use Rattle.programs.proofs.Common.{ElfFault, Magic, Short, FileHeader, File, Perm, zero_page, pages_of, ceil_div}
+use Rattle.programs.proofs.Common.{number_at, load_segment, Loaded, loaded_of, may_follow, nothing_loaded, Segment}
+use Rattle.programs.proofs.Common.{segment_marks, with_segment, load_segments, segment_at, segment_pages, file_bytes}
+use Rattle.programs.proofs.Common.{bytes_or_none, end_behind, end_by, end_of, headed, IsRead, program_in, TellsProgram}
+use Rattle.programs.proofs.Common.{unless_refused, Program}
+use Rattle.programs.proofs.Reading.{HasSeen, IsKept, kept-file, kept-is-file, kept-more, kept-none, kept-one, lost-then}
+use Rattle.programs.proofs.Reading.{program-serves, read-serves}
 pub use Rattle.file_transfers.proofs.Fits.{serves-told}
 use Rattle.tree.specs.Telling as telling
 use Rattle.programs.specs.Headed.{Tells}
-
--- ---- what steps return
-
--- what a read returns
-abbrev pub HasRead : FileTree → FileTree → ℕ → ℕ → List ℕ → List ℕ → ℕ → Type 0
-HasRead old new n at out out' k =
-    (new ≡ record old { failures = new.failures })
-    × ((node : Node) → slot old.files n ≡ Some node
-    → (k ≡ min (length out) (length (node_bytes node) - at)) × (out' ≡ part at k (node_bytes node) ++ drop k out))
-
--- what a look at a node returns
-abbrev pub HasSeen : FileTree → FileTree → ℕ → InodeStat → Type 0
-HasSeen old new n s = (new ≡ record old { failures = new.failures })
-    × ((node : Node) → slot old.files n ≡ Some node → telling.Tells s node)
-
--- ---- a tree that is only read
-
--- the reads so far left the files as they were, and none of them failed
-pub record IsKept (old now : FileTree) : Type 0 where
-  pub same : now ≡ record old { failures = now.failures }
-  pub up : now.failed ≡ false
-  pub later : old.failures ≤ now.failures
-
-pub kept-none : (tree : FileTree) → tree.failed ≡ false → IsKept tree tree
-kept-none tree up = record { same = refl; up = up; later = omega arith }
-
-pub kept-one : {A : Type 0} {old new : FileTree} {x : A} {Told : A → Type 0}
-    → new ≡ record old { failures = new.failures } → Serves old new (Ok x) Told → IsKept old new
-kept-one same serves = record { same = same; up = serves.up; later = serves.cause.later }
-
-pub kept-more : {A : Type 0} {old mid new : FileTree} {x : A} {Told : A → Type 0} → IsKept old mid
-    → new ≡ record mid { failures = new.failures } → Serves mid new (Ok x) Told → IsKept old new
-kept-more {new = new} kept same serves =
-    record {
-      same = same ∙ ap (λ (t : FileTree). record t { failures = new.failures }) kept.same;
-      up = serves.up;
-      later = le_trans kept.later serves.cause.later;
-    }
-
-module _ {old now : FileTree} (kept : IsKept old now) where
-  pub kept-file : (number : ℕ) → file_at now.files number ≡ file_at old.files number
-  kept-file number = ap (λ (t : FileTree). file_at t.files number) kept.same
-
-  pub kept-is-file : {number : ℕ} → IsFile old.files number → IsFile now.files number
-  kept-is-file {number} file =
-      subst (λ (files : Files). IsFile files number) (sym (ap (λ (t : FileTree). t.files) kept.same)) file
-
-  -- a value is returned
-  kept-told : {B : Type 0} {Told : B → Type 0} {y : B} → Told y → Serves old now (Ok y) Told
-  kept-told {y} told = serves-told y told kept.up (ap (λ (t : FileTree). t.identity) kept.same) kept.later
-
-  pub kept-leaves : {B : Type 0} {y : B} → Serves old now (Ok y) (Leaves old now)
-  kept-leaves {y} = kept-told kept.same
-
-  -- the next step failed
-  lost-then : {A B : Type 0} {new : FileTree} {fault given : DeviceFault} {Told : A → Type 0} {Left : B → Type 0}
-      → Serves now new (Err given) Told → Serves old new (Err fault) Left
-  lost-then serves =
-      let first = kept.later in
-      let after = serves.cause.later in
-      record {
-        told = tt;
-        up = tt;
-        down = serves.down;
-        same_device = serves.same_device ∙ ap (λ (t : FileTree). t.identity) kept.same;
-        cause = record {
-          later = le_trans first after;
-          failed = λ e. let rises = serves.cause.failed e in omega (arith, rises, first);
-        };
-      }
-
--- ---- the exit of a `?`
-
-module _ {B : Type 0} (r : Result B DeviceFault) (Q : DeviceFault → Type 0) (exit : IsErrAnd r Q) where
-  pub is : r ≡ Err (err_from_is_err_and r exit).0
-  is = (err_from_is_err_and r exit).1
-
-  pub err-told : (P : B → Type 0) → IfOk r P
-  err-told P = subst (λ (x : Result B DeviceFault). IfOk x P) (sym is) tt
-
-  pub err-done : (P : Type 0) → OnOk r P
-  err-done P = subst (λ (x : Result B DeviceFault). OnOk x P) (sym is) tt
-
-  pub err-left : (P : Type 0) → P → OnErr r P
-  err-left P p = subst (λ (x : Result B DeviceFault). OnErr x P) (sym is) p
-
-  pub lost : {A : Type 0} {old mid new : FileTree} {given : DeviceFault} {Told : A → Type 0} (P : B → Type 0)
-      → IsKept old mid → Serves mid new (Err given) Told → Serves old new r P
-  lost {old = old} {new = new} P kept serves =
-      subst (λ (x : Result B DeviceFault). Serves old new x P) (sym is) (lost-then kept serves)
-
--- ---- results
-
--- what was read is the result
-read-serves : {T : Type 0} {old new : FileTree} {told is : T} → IsKept old new → told ≡ is
-    → Serves old new (Ok told) (λ t. IsRead old new t is)
-read-serves {told = told} kept value = kept-told kept (record { same = kept.same; value = value })
-
-program-serves : {old new : FileTree} {told is : Option Program} → IsKept old new → told ≡ is
-    → IfSome told (λ program. program.pages ≤ 2 ^ 52) → Serves old new (Ok told) (TellsProgram old new is)
-program-serves {told = told} kept value few = kept-told kept (record { same = kept.same; value = value }, few)
-
--- a read of bytes that the file has
-pub whole-read : {old new : FileTree} {number : ℕ} (at : ℕ) {out out' : List ℕ} {k : ℕ} → IsFile old.files number
-    → at + length out ≤ length (file_at old.files number)
-    → Serves old new (Ok k) (HasRead old new number at out out')
-    → Serves {T = Unit {0}} old new (Ok tt)
-    (λ done. IsRead old new out' (part at (length out) (file_at old.files number)))
-whole-read {old} {number} at {out} {out'} {k} file within serves =
-    let bytes : file_at old.files number ≡ file.bytes = ap bytes_or_none file.here in
-    let told = serves.told.1 (File file.links file.bytes) file.here in
-    let count : k ≡ length out = omega (arith, told.0, within, ap length bytes) in
-    let value : out' ≡ part at (length out) (file_at old.files number) = told.1
-    ∙ rw (count, drop_all (length out) out (omega arith), bytes) (append-nil (part at (length out) file.bytes))
-    in
-    kept-told (kept-one serves.told.0 serves) (record { same = serves.told.0; value = value })
-
--- where what is loaded ends, by the segment of a program header
-pub end-told : {old new : FileTree} {told : Result (Option LoadSegment) ElfFault} (file : List ℕ) (at end : ℕ)
-    {o : Option ℕ} → Serves old new (Ok told) (Tells old new (segment_behind file at end)) → o ≡ end_by end told
-    → Serves old new (Ok o) (Tells old new (end_behind file at end))
-end-told file at end serves is = read-serves (kept-one serves.told.same serves) (is ∙ ap (end_by end) serves.told.value)
 
 -- ---- the header
 

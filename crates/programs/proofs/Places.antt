@@ -14,7 +14,7 @@ use Rattle.programs.proofs.Common.{file_at, stacked, Follows, HasRoom, IsPaged, 
 use Rattle.spaces.proofs.SpacesLemmas.{held-same, taken-placed}
 use Rattle.file_transfers.proofs.Memory.{marks-written}
 use Rattle.std.proofs.Math.Nat.{zero-add}
-use Rattle.programs.proofs.Headings.{IsKept}
+use Rattle.programs.proofs.Reading.{IsKept}
 use Rattle.programs.proofs.Stacks.{write-stack}
 use Rattle.file_transfers.specs.Moved.{bytes_of, bytes_read, with_bytes}
 

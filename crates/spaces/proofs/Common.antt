@@ -13,8 +13,8 @@ pub use Rattle.std.specs.Bool.{OnFalse, OnTrue}
 pub use Rattle.std.specs.List.{flat_map, prefix_len, refill}
 pub use Rattle.std.specs.Prelude.{IfNone, is_none, is_ok, is_some, IsErrOf, not, OnErr, OnOk, option_and_then}
 pub use Rattle.std.specs.Prelude.{slice_get, sum_by, unwrap_or, ◌||◌, ◌↔◌}
-pub use Rattle.frames.proofs.HolderLemmas.{count_of-append, count_of-first, held-inside, one_if-le, Trades-give}
-pub use Rattle.frames.proofs.HolderLemmas.{Trades-take}
+pub use Rattle.frames.proofs.HolderLemmas.{count_of-append, count_of-first, held-inside, one_if-le}
+pub use Rattle.frames.proofs.TradeLemmas.{Trades-give, Trades-take}
 pub use Rattle.frames.specs.Free.{among, free_count, further_at, IsFreeList, SameBut}
 unfoldable pub use Rattle.frames.specs.Free.{extra_of, free_of}
 pub use Rattle.frames.specs.Holders.{count_of, one_if, Trades}

@@ -11,7 +11,7 @@ use Rattle.spaces.proofs.Common.{pipe_shown, shown, spaces_of, Inside, each-set}
 use Rattle.spaces.proofs.Places.{pipe-free, pipe-held, pipe-slot, pipes-placed, free-taken, taken-fits}
 use Rattle.spaces.proofs.SpacesLemmas.{Pipes, map-same, none-of, refilled, some-pipe, taken-piped, within}
 use Rattle.spaces.proofs.Stepped.{here}
-use Rattle.spaces.proofs.Traded.{with_holders, Shows, runs-on, same-shown, still-active}
+use Rattle.spaces.proofs.Shown.{with_holders, Shows, runs-on, same-shown, still-active}
 use Rattle.vm.specs.Shares as shares
 
 -- ---- what the slots for pipes show

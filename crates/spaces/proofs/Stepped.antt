@@ -1,255 +1,25 @@
 -- A step of the hart in the space of the active slot.
-use Rattle.spaces.proofs.Common.{Ram, Held, Alike, Narrows, changed, put_in, ◌≡◌, ◌⊎◌, ◌&&◌, inl, inr, ℕ, ◌%◌, ◌/◌, ◌^◌}
-use Rattle.spaces.proofs.Common.{◌<◌, ◌≤◌, Bool, true, false, cond, List, Option, Some, None, refl, sym, ap, ◌∙◌}
-use Rattle.spaces.proofs.Common.{option_and_then, option_map, slice_get, cases_Bool, cases_lt, memory_of, page_in}
-use Rattle.spaces.proofs.Common.{Fetch, Load, Store, Change, Bytes, Nothing, ShowsByte, ShowsMemory, byte_at, is_shared}
-use Rattle.spaces.proofs.Common.{page_byte, walk, Perm, Memory, Page, page_for, permits, permitted, marks_at, read_at}
-use Rattle.spaces.proofs.Common.{read_below, entries_below, pages_below, mapping_below, IsUserLeaf, entry_marks}
-use Rattle.spaces.proofs.Common.{is_open, right_marks, user_leaf, get-mapping, mapped-page, mapping-past, unmapped-page}
-use Rattle.spaces.proofs.Common.{arith, Err, IfSome, length, map, Ok, slice_set, subst, and_parts, set-get_or, IfNone}
-use Rattle.spaces.proofs.Common.{Frames, memory_of-cycle, cycle-again, cycle-retries, IsSound, WritesOnly, Hart}
-use Rattle.spaces.proofs.Common.{IsMemory, FrameNo, coherent-kept, shows-coherent, IsCoherent, Mapped, Shows, WalksTo}
-use Rattle.spaces.proofs.Common.{cycle, slot, Computed, Effect, trap, memory_after, HoldsInside, HoldsNothing, IsKept}
-use Rattle.spaces.proofs.Common.{StorePageFault, Trap, trade-machine, trade-others, mapping-is, mapping-within}
-use Rattle.spaces.proofs.Common.{walks-entries, frame_at, IsMachine, OthersUntouched, entries_of, holds, IsMapped}
-use Rattle.spaces.proofs.Common.{IsOnce, IsRearranged, IsSpace, mapping_of, pages_in, pages_of, Stands, Space, Does}
-use Rattle.spaces.proofs.Common.{Spaces, SpaceView, Traps, view_at, with_place, IsSpaces, pipe_frames, pipe_shown, Runs}
-use Rattle.spaces.proofs.Common.{shown, spaces_of, view_with, Inside, DoesOne, Point, point_of, Executes, ◌+◌, suc}
-use Rattle.spaces.proofs.Common.{zero, is_some, Advances}
-use Rattle.unixmodel.specs.declared.trap.Access.{Access}
-use Rattle.vm.proofs.PageLemmas.{leaf-open, open-right, open-unshared, right-leaf}
+use Rattle.spaces.proofs.Common.{Ram, Held, Narrows, changed, ◌≡◌, ◌⊎◌, inl, inr, ℕ, ◌/◌, ◌≤◌, true, List, Option, Some}
+use Rattle.spaces.proofs.Common.{None, refl, sym, ap, ◌∙◌, memory_of, Store, Perm, Memory, page_for, marks_at}
+use Rattle.spaces.proofs.Common.{entry_marks, right_marks, user_leaf, arith, Err, IfSome, length, map, slice_set, subst}
+use Rattle.spaces.proofs.Common.{set-get_or, IfNone, Frames, memory_of-cycle, cycle-again, WritesOnly, Hart, IsMemory}
+use Rattle.spaces.proofs.Common.{FrameNo, coherent-kept, shows-coherent, IsCoherent, Mapped, Shows, WalksTo, cycle}
+use Rattle.spaces.proofs.Common.{slot, Effect, trap, memory_after, HoldsInside, HoldsNothing, IsKept, StorePageFault}
+use Rattle.spaces.proofs.Common.{Trap, trade-machine, trade-others, walks-entries, IsMachine, OthersUntouched}
+use Rattle.spaces.proofs.Common.{entries_of, holds, IsMapped, IsRearranged, IsSpace, mapping_of, pages_in, pages_of}
+use Rattle.spaces.proofs.Common.{Stands, Space, Does, Spaces, SpaceView, Traps, view_at, with_place, IsSpaces}
+use Rattle.spaces.proofs.Common.{pipe_frames, pipe_shown, Runs, shown, spaces_of, view_with, Inside, DoesOne, Point}
+use Rattle.spaces.proofs.Common.{point_of, Executes}
 use Rattle.hart.proofs.ChangeLemmas.{IsDone, IsTrapped, follows-cases, follows-only}
 use Rattle.hart.specs.Follows.{Follows}
 use Rattle.spaces.proofs.Places.{pipes-beside, held-is, slot-is}
-use Rattle.spaces.proofs.SpacesLemmas.{within, AdvancesTo, advances-more, advances-none}
-use Rattle.spaces.proofs.Traded.{with_holders, reframed-showing, same-place, shown-as, shown-placed}
+use Rattle.spaces.proofs.SpacesLemmas.{within}
+use Rattle.spaces.proofs.Shown.{with_holders, same-place, shown-as, shown-placed}
+use Rattle.spaces.proofs.Traded.{reframed-showing}
+use Rattle.spaces.proofs.Rights.{changed-right, done-right, let_through, narrows, opened-alike, sound, stands-only}
+use Rattle.spaces.proofs.Rights.{trap-right}
 use Rattle.sv39.proofs.WalkLemmas.{walk_page-inside}
 use Rattle.unixmodel.specs.declared.trap.Cause.{Cause}
-use Rattle.vm.proofs.StoreLemmas.{Stands-none, page-inside, pages-same, space-stored}
-use Rattle.hart.specs.Runs.{Goes, GoesOn, Reaches, RunsTo, StaysWhole}
-
--- ---- a page
-
-page-here : (read : ℕ → Perm) (m : Ram) (r n p : ℕ) → p < n
-    → slice_get (memory_of m (read_below read m r n)) p ≡ Some (page_in m (read_at read m r p))
-page-here read m r n p low =
-    mapped-page m (read_below read m r n) p (read_at read m r p) (sym (get-mapping read m r n p low))
-
-page-past : (read : ℕ → Perm) (m : Ram) (r n p : ℕ) → n ≤ p → slice_get (memory_of m (read_below read m r n)) p ≡ None
-page-past read m r n p high = unmapped-page m (read_below read m r n) p (sym (mapping-past read m r n p high))
-
-cond-alike : (b c : Bool) (p q : Page) → b ≡ c → p.bytes ≡ q.bytes → Alike (cond b (Some p) None) (cond c (Some q) None)
-cond-alike true true p q e same = ap Some same
-cond-alike false false p q e same = refl
-cond-alike _ _ p q e same = absurd cc
-
-alike-by : (a : Access) (o w : Option Page) (p q : Page) → o ≡ Some p → w ≡ Some q
-    → permits a p.marks ≡ permits a q.marks → p.bytes ≡ q.bytes → Alike (permitted a o) (permitted a w)
-alike-by a o w p q here there same bytes =
-    rw (here, there) (cond-alike (permits a p.marks) (permits a q.marks) p q same bytes)
-
--- an access that both marks of a page permit, or neither
-alike-at : (a : Access) (m : Ram) (r n p : ℕ)
-    → (p < n → permits a (entry_marks (marks_at m r p)) ≡ permits a (right_marks (marks_at m r p)))
-    → Alike (permitted a (slice_get (memory_of m (entries_below m r n)) p))
-    (permitted a (slice_get (pages_below m r n) p))
-alike-at a m r n p same = elim (cases_lt p n) [
-  | inl low ↦
-      alike-by a (slice_get (memory_of m (entries_below m r n)) p) (slice_get (pages_below m r n) p)
-      (page_in m (read_at entry_marks m r p)) (page_in m (read_at right_marks m r p))
-      (page-here entry_marks m r n p low) (page-here right_marks m r n p low) (same low) refl
-  | inr high ↦ ap (λ (o : Option Page). option_map (λ (x : Page). x.bytes) (permitted a o))
-      (page-past entry_marks m r n p high ∙ sym (page-past right_marks m r n p high))
-]
-
--- ---- all of them
-
-closed-none : (b u : Bool) (p : Page) → b ≡ false → cond (b && u) (Some p) None ≡ None
-closed-none true u p e = absurd cc
-closed-none false u p e = refl
-
-store-at : (m : Ram) (r n p : ℕ) → ((q : ℕ) → q < n → IsUserLeaf (marks_at m r q))
-    → (permitted Store (slice_get (memory_of m (entries_below m r n)) p) ≡ None)
-    ⊎ Alike (permitted Store (slice_get (memory_of m (entries_below m r n)) p))
-    (permitted Store (slice_get (pages_below m r n) p))
-store-at m r n p leaves = elim (cases_lt p n) [
-  | inl low ↦ elim (cases_Bool (is_open (marks_at m r p))) [
-    | inl wide ↦ inr (alike-at Store m r n p
-        (λ h. ap (λ (b : Bool). b && (right_marks (marks_at m r p)).user)
-        (wide ∙ sym (open-right (marks_at m r p) (leaves p low) wide))))
-    | inr shut ↦ inl (ap (permitted Store) (page-here entry_marks m r n p low)
-        ∙ closed-none (is_open (marks_at m r p)) (right_marks (marks_at m r p)).user
-        (page_in m (read_at entry_marks m r p)) shut)
-  ]
-  | inr high ↦ inl (ap (permitted Store) (page-past entry_marks m r n p high))
-]
-
--- what the walk lets through narrows what a program may do by right
-narrows-right : (m : Ram) (r n : ℕ) → ((q : ℕ) → q < n → IsUserLeaf (marks_at m r q))
-    → Narrows (memory_of m (entries_below m r n)) (pages_below m r n)
-narrows-right m r n leaves = record {
-  fetch = λ address. alike-at Fetch m r n (address / 4096) (λ h. refl);
-  load = λ address. alike-at Load m r n (address / 4096) (λ h. refl);
-  store = λ address. store-at m r n (address / 4096) leaves;
-}
-
--- a page that was opened lets a store through where the program may write it by right
-opened-alike : (m : Ram) (r n address : ℕ) (g : Perm) → marks_at m r (address / 4096) ≡ user_leaf g true
-    → Alike (page_for Store (memory_of m (entries_below m r n)) address) (page_for Store (pages_below m r n) address)
-opened-alike m r n address g made =
-    let leaf = marks_at m r (address / 4096) in
-    let wide : is_open leaf ≡ g.writable = ap is_open made ∙ leaf-open g in
-    let right : (right_marks leaf).writable ≡ g.writable = ap (λ (l : ℕ). (right_marks l).writable) made
-    ∙ ap (λ (a : Perm). a.writable) (right-leaf g true) in
-    alike-at Store m r n (address / 4096) (λ h. ap (λ (b : Bool). b && (right_marks leaf).user) (wide ∙ sym right))
-
--- ---- stores depend on frames alone
-
-changed-right : (m : Ram) (r n : ℕ) (c : Change) → changed m (entries_below m r n) c ≡ changed m (mapping_below m r n) c
-changed-right m r n Nothing = refl
-changed-right m r n (Bytes address bytes) =
-    let p = address / 4096 in
-    let same : put_in m (slice_get (entries_below m r n) p) (address % 4096) bytes
-    ≡ put_in m (slice_get (mapping_below m r n) p) (address % 4096) bytes = elim (cases_lt p n) [
-      | inl low ↦ rw (get-mapping entry_marks m r n p low, get-mapping right_marks m r n p low) refl
-      | inr high ↦ rw (mapping-past entry_marks m r n p high, mapping-past right_marks m r n p high) refl
-    ] in
-    same
-
--- ---- what walks reach
-
-byte-alike : (va : ℕ) (p q : Option Page) → Alike p q
-    → option_and_then (λ (x : Page). slice_get x.bytes (va % 4096)) p
-    ≡ option_and_then (λ (x : Page). slice_get x.bytes (va % 4096)) q
-byte-alike va None None h = refl
-byte-alike va (Some p) (Some q) h =
-    let same : p.bytes ≡ q.bytes = cc in
-    ap (λ (bytes : List ℕ). slice_get bytes (va % 4096)) same
-byte-alike va _ _ h = absurd cc
-
--- a page that no fork had lets a store through where the program may write it by right
-unshared-alike : (m : Ram) (r n p : ℕ) → ((q : ℕ) → q < n → IsUserLeaf (marks_at m r q))
-    → is_shared (slice_get (pages_below m r n) p) ≡ false
-    → Alike (permitted Store (slice_get (memory_of m (entries_below m r n)) p))
-    (permitted Store (slice_get (pages_below m r n) p))
-unshared-alike m r n p leaves none = alike-at Store m r n p (λ low.
-    let leaf = marks_at m r p in
-    let alone : (right_marks leaf).shared ≡ false = ap is_shared (sym (page-here right_marks m r n p low)) ∙ none in
-    ap (λ (b : Bool). b && (right_marks leaf).user) (open-unshared leaf (leaves p low) alone))
-
--- what the walk lets through, beside what a program may do by right: it is narrower, and the same for stores to a page
--- that no fork had
-pub record IsSeen (low high : Memory) : Type 0 where
-  pub narrows : Narrows low high
-  pub unshared : (address : ℕ) → is_shared (slice_get high (address / 4096)) ≡ false
-      → Alike (page_for Store low address) (page_for Store high address)
-
-pub seen-right : (m : Ram) (r n : ℕ) → ((q : ℕ) → q < n → IsUserLeaf (marks_at m r q))
-    → IsSeen (memory_of m (entries_below m r n)) (pages_below m r n)
-seen-right m r n leaves = record {
-  narrows = narrows-right m r n leaves;
-  unshared = λ address none. unshared-alike m r n (address / 4096) leaves none;
-}
-
-shows-store : (va : ℕ) (low high : Memory) (found : Option ℕ) (shared : Bool) → IsSeen low high
-    → is_shared (slice_get high (va / 4096)) ≡ shared → found ≡ page_byte low va Store
-    → ShowsByte Store shared found (page_byte high va Store)
-shows-store va low high found false down is e = e
-    ∙ byte-alike va (page_for Store low va) (page_for Store high va) (down.unshared va is)
-shows-store va low high found true down is e = elim (down.narrows.store va) [
-  | inl none ↦ inl (e ∙ ap (option_and_then (λ (x : Page). slice_get x.bytes (va % 4096))) none)
-  | inr alike ↦ inr (e ∙ byte-alike va (page_for Store low va) (page_for Store high va) alike)
-]
-
-shows-byte : (access : Access) (va : ℕ) (low high : Memory) (found : Option ℕ) → IsSeen low high
-    → found ≡ page_byte low va access
-    → ShowsByte access (is_shared (slice_get high (va / 4096))) found (page_byte high va access)
-shows-byte Fetch va low high found down e = e
-    ∙ byte-alike va (page_for Fetch low va) (page_for Fetch high va) (down.narrows.fetch va)
-shows-byte Load va low high found down e = e
-    ∙ byte-alike va (page_for Load low va) (page_for Load high va) (down.narrows.load va)
-shows-byte Store va low high found down e =
-    shows-store va low high found (is_shared (slice_get high (va / 4096))) down refl e
-
-pub shows-right : (ram : Ram) (root : ℕ) (low high : Memory) → IsSeen low high
-    → ((va : ℕ) (access : Access) → va < 2 ^ 64
-    → option_and_then (byte_at ram) (walk ram root va access) ≡ page_byte low va access) → ShowsMemory ram root high
-shows-right ram root low high down reached va access small =
-    shows-byte access va low high (option_and_then (byte_at ram) (walk ram root va access)) down
-    (reached va access small)
-
--- ---- one space
-
--- what an instruction writes leaves the space intact
-stands-only : (m k : Ram) (x : Space) → IsMapped m x → IsOnce m x → WritesOnly m (entries_of m x) k → Stands m k x
-stands-only m k x is once (inl same) = rw same (Stands-none m x is once)
-stands-only m k x is once (inr wrote) =
-    let n = pages_in x.size in
-    let at = mapping-is entry_marks m x.root.0 n wrote.page wrote.entry wrote.mapped in
-    let frame : frame_at m x.root.0 wrote.page ≡ wrote.entry.frame = ap (λ (e : Mapped). e.frame) at in
-    let wide : is_open (marks_at m x.root.0 wrote.page) ≡ true =
-    ap (λ (e : Mapped). e.marks.writable)
-    at ∙ (and_parts wrote.entry.marks.writable wrote.entry.marks.user wrote.permitted).0 in
-    space-stored m k x wrote.page wrote.bytes is once
-    (mapping-within entry_marks m x.root.0 n wrote.page wrote.entry wrote.mapped) wide (rw frame wrote.is)
-
--- a page that the hart may be run on is a page of the space, with that page's frame
-read-frame : (read : ℕ → Perm) (m : Ram) (x : Space) (p : ℕ) (e : Mapped)
-    → slice_get (read_below read m x.root.0 (pages_in x.size)) p ≡ Some e
-    → (p < pages_in x.size) × (frame_at m x.root.0 p ≡ e.frame)
-read-frame read m x p e at = (
-  mapping-within read m x.root.0 (pages_in x.size) p e at,
-  ap (λ (e : Mapped). e.frame) (mapping-is read m x.root.0 (pages_in x.size) p e at),
-)
-
-sound : (read : ℕ → Perm) (m : Ram) (x : Space) → IsMapped m x → IsOnce m x
-    → IsSound m (read_below read m x.root.0 (pages_in x.size))
-sound read m x is once = record {
-  inside = λ p e at. (let low = read-frame read m x p e at in rw low.1
-      at (page-inside m x.root.0 x.trap.0 (pages_in x.size) p is low.0));
-  alone = λ p e at permitted q d f at_p at_q same. (
-      let here = read-frame read m x p d at_p in
-      let there = read-frame read m x q f at_q in
-      pages-same m x.root.0 x.trap.0 (pages_in x.size) q p once there.0 here.0 (there.1 ∙ same ∙ sym here.1));
-}
-
--- the memory that the walk lets a program see
-abbrev pub let_through : Ram → Space → Memory
-let_through m x = memory_of m (entries_of m x)
-
-pub narrows : (m : Ram) (x : Space) → IsMapped m x → Narrows (let_through m x) (pages_of m x)
-narrows m x is = narrows-right m x.root.0 (pages_in x.size) is.leaves
-
--- ---- the walk lets through what is right, or a store faults at a page that is closed
-
-abbrev cause_of : Effect → Cause
-cause_of (Ok d) = StorePageFault
-cause_of (Err c) = c.cause
-
-abbrev address_of : Effect → ℕ
-address_of (Ok d) = 0
-address_of (Err c) = c.address
-
-module _ (m : Ram) (x : Space) (regs : List ℕ) (pc : ℕ) (is : IsMapped m x) where
-  -- an instruction that is done
-  done-right : (d : Computed) → cycle regs pc (let_through m x) ≡ Ok d → cycle regs pc (pages_of m x) ≡ Ok d
-  done-right d low = elim (cycle-retries regs pc (let_through m x) (pages_of m x) (narrows m x is)) [
-    | inl same ↦ sym same ∙ low
-    | inr (address, fault, none, again) ↦ absurd
-        (let bad : ◌≡◌ {A = Effect} (Ok d) (trap StorePageFault address) = sym low ∙ fault in cc)
-  ]
-
-  -- a trap that is none of a store to a page that is writable by right
-  trap-right : (c : Trap) → cycle regs pc (let_through m x) ≡ Err c
-      → (c.cause ≡ StorePageFault → page_for Store (pages_of m x) c.address ≡ None)
-      → cycle regs pc (pages_of m x) ≡ Err c
-  trap-right c low closed = elim (cycle-retries regs pc (let_through m x) (pages_of m x) (narrows m x is)) [
-    | inl same ↦ sym same ∙ low
-    | inr (address, fault, none, again) ↦
-        let both : ◌≡◌ {A = Effect} (Err c) (trap StorePageFault address) = sym low ∙ fault in
-        let shut = sym (ap (page_for Store (pages_of m x)) (sym (ap address_of both)) ∙ closed (ap cause_of both)) in
-        sym (again (let_through m x) (narrows m x is) (ap (option_map (λ (p : Page). p.bytes)) (none ∙ shut))) ∙ low
-  ]
 
 -- ---- the space of the active slot
 
@@ -315,7 +85,7 @@ module _ {T : Type 0} {held : T → Held} {i : Inside T} {at : ℕ} {x : Space} 
     stands-here = let space =
         here.machine.each at x r.stands in stands-only m k x space.dense space.once (rw here.entries wrote)
 
-    here-more : IsHere i x k
+    pub here-more : IsHere i x k
     here-more =
         let space = here.machine.each at x r.stands in
         let s = stands-here in
@@ -329,7 +99,7 @@ module _ {T : Type 0} {held : T → Held} {i : Inside T} {at : ℕ} {x : Space} 
         }
 
   -- an instruction that the hart does by what the walk lets through
-  point-does : (old new : Point) → IsHere i x old.ram → DoesOne (entries_of i.memory.ram x) old new
+  pub point-does : (old new : Point) → IsHere i x old.ram → DoesOne (entries_of i.memory.ram x) old new
       → Does (spaces_at i old) at (spaces_at i new)
   point-does old new here one =
       let m = old.ram in
@@ -364,7 +134,7 @@ module _ {T : Type 0} {held : T → Held} {i : Inside T} {at : ℕ} {x : Space} 
       record { done = d; means = rw seen by_right; leaves = rw (seen, registers, pc, places, pipes, s.count) refl }
 
   -- the fields where the hart has run, and writes have left this memory
-  sound-run : (t : T) (h : Hart) (k : Ram) → IsHere i x k → h.root ≡ i.hart.root
+  pub sound-run : (t : T) (h : Hart) (k : Ram) → IsHere i x k → h.root ≡ i.hart.root
       → IsCoherent (held t) x.root.0 (entries_of i.memory.ram x) → HoldsInside (held t) k
       → IsSpaces held (ran_by i t h k)
   sound-run t h k here root coherent inside =
@@ -557,109 +327,3 @@ second {j} {u} {o} {l} {again} {at} {x} c g r s e store re made next =
     in
     subst (λ (v : Spaces). Comes j.active v (spaces_of (ran_by j u o l)) again) re.view
     (outcome again re.run next (rw re.hart right))
-
--- ---- instructions of the process of a slot, as the hart ran them
-
-module _ {T : Type 0} {held : T → Held} {i : Inside T} {at : ℕ} {x : Space} (r : IsRun held i at x) where
-  here-reached : (n : ℕ) (m : Ram) → Reaches n (entries_of i.memory.ram x) i.memory.ram m → IsHere i x m
-  unfolding Reaches
-  here-reached zero m same = rw same (here r)
-  here-reached (suc n) m (mid, reaches, wrote) = here-more r (here-reached n mid reaches) wrote
-
-  -- many instructions, one after the other
-  ran : (stops : List ℕ) (n : ℕ) (first new : Point) → IsHere i x first.ram
-      → RunsTo stops n (entries_of i.memory.ram x) first new
-      → Advances stops n (spaces_at i first) at (spaces_at i new) × IsHere i x new.ram
-  unfolding RunsTo
-  ran stops zero first new here same = rw same (advances-none stops (spaces_at i first) at, here)
-  ran stops (suc n) first new here (mid, runs, one, past) =
-      let before = ran stops n first mid here runs in (
-        advances-more stops n (spaces_at i first) (spaces_at i mid) (spaces_at i new)
-            at before.0 (point-does r mid new before.1 one) past,
-        here-more r before.1 one.writes,
-      )
-
-  begun : {stops : List ℕ} → length i.memory.ram ≤ 32768
-      → Goes (held i.translator) i.hart.root.0 (entries_of i.memory.ram x) stops 0 (point_of i.hart i.memory.ram)
-      (point_of i.hart i.memory.ram)
-  unfolding RunsTo Reaches
-  begun small =
-      let space = r.is.machine.each at x r.stands in
-      let walks : (n : ℕ) (m : Ram) → Reaches n (entries_of i.memory.ram x) i.memory.ram m
-      → WalksTo m i.hart.root.0 (entries_of i.memory.ram x) =
-      λ n m reaches. (
-      let now = here-reached n m reaches in
-      rw (r.same, ← now.entries)
-      (walks-entries m x.root.0 x.trap.0 (pages_in x.size) (rw now.count small)
-      (now.machine.each at x r.stands).dense)) in
-      record {
-        steady = record { sound = sound entry_marks i.memory.ram x space.dense space.once; walks = walks };
-        coherent = rw r.same r.coherent;
-        runs = refl;
-        reaches = refl;
-        count = refl;
-      }
-
--- what a run of the hart did
-pub record RanOn {T : Type 0} (held : T → Held) (i : Inside T) (t : T) (h : Hart) (k : Ram) (stops : List ℕ) (done : ℕ)
-    (stopped : Option Trap) : Type 0 where
-  pub small : length i.memory.ram ≤ 32768
-  pub goes : (mapping : List Mapped)
-      → GoesOn (held i.translator) (held t) i.hart.root.0 mapping stops (point_of i.hart i.memory.ram) (point_of h k)
-      done
-      stopped
-  pub whole : StaysWhole (held t) i.hart h i.memory.ram k
-
-module _ {T : Type 0} {held : T → Held} {i : Inside T} {t : T} {h : Hart} {k : Ram} {stops : List ℕ} {done : ℕ}
-    {at : ℕ} {x : Space} (r : IsRun held i at x) where
-  went-on : (stopped : Option Trap) → RanOn held i t h k stops done stopped
-      → Goes (held t) i.hart.root.0 (entries_of i.memory.ram x) stops done (point_of i.hart i.memory.ram) (point_of h k)
-      × IfSome stopped (λ c. cycle h.registers h.pc (memory_of k (entries_of i.memory.ram x)) ≡ Err c)
-  went-on stopped o =
-      let none : 0 + done ≡ done = omega arith in
-      let all = o.goes (entries_of i.memory.ram x) 0 (point_of i.hart i.memory.ram)
-      (λ more. absurd (omega (arith, more)))
-      (begun r o.small) in (
-        subst (λ (n : ℕ). Goes (held t) i.hart.root.0 (entries_of i.memory.ram x) stops n (point_of i.hart i.memory.ram)
-            (point_of h k)) none all.0,
-        all.1,
-      )
-
-  -- the spaces after the run
-  ran-at : (stopped : Option Trap) → RanOn held i t h k stops done stopped
-      → IsSpaces held (ran_by i t h k) × Advances stops done (spaces_of i) at (spaces_of (ran_by i t h k))
-  ran-at stopped o =
-      let went = (went-on stopped o).0 in
-      let all = ran r stops done (point_of i.hart i.memory.ram) (point_of h k) (here r) went.runs in (
-        sound-run r t h k all.1 o.whole.root
-            (subst (λ n. IsCoherent (held t) n (entries_of i.memory.ram x)) r.same went.coherent) o.whole.inside,
-        all.0,
-      )
-
-  -- the trap after the run, except for a store's, is one by right, too
-  stops-right : (c : Trap) → RanOn held i t h k stops done (Some c) → (c.cause ≡ StorePageFault → ⊥)
-      → cycle h.registers h.pc (view_at (spaces_of (ran_by i t h k)) at).memory ≡ Err c
-  stops-right c o other =
-      let all = went-on (Some c) o in
-      let now = (ran r stops done (point_of i.hart i.memory.ram) (point_of h k) (here r) all.0.runs).1 in
-      let low : cycle h.registers h.pc (let_through k x) ≡ Err c = rw now.entries all.1 in
-      let seen : view_at (spaces_of (ran_by i t h k)) at ≡ view_with (pages_of k x) x.size =
-      held-is (ran_by i t h k) _ r.stands in
-      rw seen (trap-right k x h.registers h.pc (now.machine.each at x r.stands).dense c low
-      (λ store. absurd (other store)))
-
-pub ran-sound : {T : Type 0} {held : T → Held} {i : Inside T} {t : T} {h : Hart} {k : Ram} {stops : List ℕ} {done : ℕ}
-    {stopped : Option Trap} (a : Option ℕ) → IsSpaces held i → RanOn held i t h k stops done stopped → i.active ≡ a
-    → is_some a ≡ true
-    → IsSpaces held (ran_by i t h k) × AdvancesTo stops done a (spaces_of i) (spaces_of (ran_by i t h k))
-ran-sound None is o e some = absurd (cc)
-ran-sound (Some at) is o e some = ran-at (run-of is e).1 _ o
-
--- the next instruction raises the trap that the run returned, except where that is a store's
-pub ran-trap : {T : Type 0} {held : T → Held} {i : Inside T} {t : T} {h : Hart} {k : Ram} {stops : List ℕ} {done : ℕ}
-    (stopped : Option Trap) (a : Option ℕ) → IsSpaces held i → RanOn held i t h k stops done stopped → i.active ≡ a
-    → IfSome stopped (λ c. (c.cause ≡ StorePageFault → ⊥)
-    → IfSome a (λ at. cycle h.registers h.pc (view_at (spaces_of (ran_by i t h k)) at).memory ≡ Err c))
-ran-trap None a is o e = tt
-ran-trap (Some c) None is o e = λ other. tt
-ran-trap (Some c) (Some at) is o e = λ other. stops-right (run-of is e).1 c o other

@@ -1,116 +1,27 @@
 -- One slot trades frames: what is left of the fields, and what they show then; and spaces over duplicates.
-use Rattle.spaces.proofs.Common.{Ram, Held, ◌+◌, ◌++◌, ◌-◌, ◌<◌, [], ap, arith, Bool, Err, false, get_or-set_other}
-use Rattle.spaces.proofs.Common.{get_or-set_same, inl, inr, length, length-append, length-set, List, map, None, Ok}
-use Rattle.spaces.proofs.Common.{Option, refl, replicate, Result, slice_set, Some, subst, sym, take, true, ℕ, ◌∙◌, ◌≡◌}
-use Rattle.spaces.proofs.Common.{◌≢◌, ◌≤◌, ◌⊎◌, cases_eq, length-replicate, set-get_or, take_all, OnFalse, OnTrue}
-use Rattle.spaces.proofs.Common.{refill, OnErr, OnOk, free_count, IsFreeList, Trades, Frames, FrameNo, coherent-nothing}
-use Rattle.spaces.proofs.Common.{IsCoherent, page_frames, slot, Memory, Perm, shared_memory, zero_page, HoldsNothing}
-use Rattle.spaces.proofs.Common.{Translation, length-mapping, fork-machine, trade-machine, trade-others, frames_for}
-use Rattle.spaces.proofs.Common.{entry_marks, IsMachine, IsPlace, OthersUntouched, entries_of, holds, IsSpace}
-use Rattle.spaces.proofs.Common.{IsUntouched, pages_in, pages_of, Reframes, Stands, Space, VmFault, forked, frames_in}
-use Rattle.spaces.proofs.Common.{grown, has_space, no_pages, SpaceView, taken_frames, with_place, IsActive, IsSpaces}
-use Rattle.spaces.proofs.Common.{pipe_frames, Runs, shown, Spaces, spaces_of, view_with, Inside, copied}
+use Rattle.spaces.proofs.Common.{Ram, Held, ◌+◌, ◌++◌, ◌-◌, ◌<◌, [], ap, arith, Bool, Err, false, get_or-set_other, inl}
+use Rattle.spaces.proofs.Common.{inr, length, length-append, length-set, List, map, None, Ok, Option, refl, replicate}
+use Rattle.spaces.proofs.Common.{Result, slice_set, Some, subst, sym, take, true, ℕ, ◌∙◌, ◌≡◌, ◌≢◌, ◌≤◌, ◌⊎◌, cases_eq}
+use Rattle.spaces.proofs.Common.{length-replicate, take_all, OnFalse, OnTrue, OnErr, OnOk, free_count, IsFreeList}
+use Rattle.spaces.proofs.Common.{Trades, Frames, coherent-nothing, IsCoherent, page_frames, slot, Memory, Perm}
+use Rattle.spaces.proofs.Common.{shared_memory, zero_page, HoldsNothing, Translation, length-mapping, fork-machine}
+use Rattle.spaces.proofs.Common.{trade-machine, trade-others, frames_for, entry_marks, IsMachine, IsPlace, entries_of}
+use Rattle.spaces.proofs.Common.{holds, IsSpace, pages_in, pages_of, Reframes, Stands, Space, VmFault, forked}
+use Rattle.spaces.proofs.Common.{frames_in, grown, has_space, no_pages, SpaceView, taken_frames, with_place, IsActive}
+use Rattle.spaces.proofs.Common.{IsSpaces, pipe_frames, Runs, shown, spaces_of, view_with, Inside, copied}
 use Rattle.spaces.proofs.Common.{nil_from_length}
 use Rattle.frames.specs.Owned.{IsDuplicate}
 use Rattle.frames.specs.declared.memory.Memory.{Memory as FrameMemory}
 use Rattle.spaces.proofs.Places.{pipes-beside, frames-shown, frames_for-pages, free-is, free-taken, held-is}
 use Rattle.spaces.proofs.Places.{length-pages_of, places-count, slot-is, taken-fits}
 use Rattle.spaces.proofs.SpacesLemmas.{Places, map-placed, place-free, refilled, taken-forked, taken-placed, within}
-use Rattle.frames.proofs.HolderLemmas.{Trades-none}
+use Rattle.spaces.proofs.Shown.{Placed, Shows, placed-as, runs-changed, runs-on, same-place, set_in, shown-as}
+use Rattle.spaces.proofs.Shown.{shown-placed, still-active, with_holders}
+use Rattle.frames.proofs.TradeLemmas.{Trades-none}
 use Rattle.vm.specs.Owned.{Grows, Resizes}
 use Rattle.vm.specs.Shares as shares
 use Rattle.vm.specs.declared.Perm.{Perm as MarksGiven}
 use Rattle.vm.proofs.SharesLemmas.{same-machine}
-
--- a memory of these bytes, and who holds its frames
-abbrev pub with_holders : Ram → Frames → FrameMemory
-with_holders k n = record { ram = k; frames = n }
-
--- a slot that stays
-pub same-place : (xs : Places) (at : ℕ) (x : Space) → slot xs at ≡ Some x → xs ≡ slice_set xs at (Some x)
-same-place xs at x e = sym (ap (slice_set xs at) (sym e) ∙ set-get_or xs at None)
-
--- ---- what the slots show
-
-pub same-shown : (m k : Ram) (o : Option Space) → ((x : Space) → o ≡ Some x → IsUntouched m k x) → shown k o ≡ shown m o
-same-shown m k None h = refl
-same-shown m k (Some x) h = ap (λ p. Some (view_with p x.size)) (h x refl).pages
-
-pub shown-placed : (m k : Ram) (places : Places) (at : ℕ) (y : Option Space)
-    → OthersUntouched m k places at → map (shown k) (slice_set places at y)
-    ≡ slice_set (map (shown m) places) at (shown k y)
-shown-placed m k places at y others =
-    map-placed (shown m) (shown k) places at y (λ j ne. same-shown m k (slot places j) (λ x e. others j x ne e))
-
--- ---- what the hart runs
-
--- what the active slot runs, from what holds of any slot
-pub still-active : (old new : Held) (m k : Ram) (root : ℕ) (places q : Places) (a : Option ℕ)
-    → ((j : ℕ) → a ≡ Some j → Runs old m root places j → Runs new k root q j) → IsActive old m root places a
-    → IsActive new k root q a
-still-active old new m k root places q None each run = tt
-still-active old new m k root places q (Some j) each run = each j refl run
-
--- a space that stays, where no more is held of its tables
-pub runs-on : {old new : Held} {m k : Ram} {root j : ℕ} {places q : Places} (run : Runs old m root places j)
-    → slot q j ≡ Some run.space → IsUntouched m k run.space → ((t : Translation) → new t → old t) → Runs new k root q j
-runs-on run stands stays fewer =
-    record {
-      space = run.space;
-      stands = stands;
-      same = run.same;
-      coherent = rw stays.entries (record { walks = λ t h root. run.coherent.walks t (fewer t h) root });
-    }
-
--- the space of the active slot changes, and keeps its root
-runs-changed : (old new : Held) (m k : Ram) (root : ℕ) (places : Places) (at : ℕ) (x z : Space) → at < length places
-    → slot places at ≡ Some x → z.root ≡ x.root
-    → (IsCoherent old x.root.0 (entries_of m x) → IsCoherent new x.root.0 (entries_of k z))
-    → Runs old m root places at → Runs new k root (slice_set places at (Some z)) at
-runs-changed old new m k root places at x z hi e same coherent run =
-    let both : Some run.space ≡ Some x = sym run.stands ∙ e in
-    let is : run.space ≡ x = cc in
-    let root_is : z.root.0 ≡ x.root.0 = ap (λ (r : FrameNo). r.0) same in
-    let was = subst (λ (d : Space). IsCoherent old d.root.0 (entries_of m d)) is run.coherent in
-    let now : IsCoherent new z.root.0 (entries_of k z) =
-    subst (λ (r : ℕ). IsCoherent new r (entries_of k z)) (sym root_is) (coherent was) in
-    record {
-      space = z;
-      stands = get_or-set_same places at (Some z) None hi;
-      same = run.same
-          ∙ ap (λ (d : Space). d.root.0) is ∙ sym root_is;
-      coherent = now;
-    }
-
--- ---- all of it
-
-pub shown-as : (k : Ram) (z : Space) (memory : Memory) (size : ℕ) → pages_of k z ≡ memory → z.size ≡ size
-    → shown k (Some z) ≡ Some (view_with memory size)
-shown-as k z memory size p e = ap (λ (m : Memory). Some (view_with m z.size)) p
-    ∙ ap (λ (n : ℕ). Some (view_with memory n)) e
-
--- the fields after a change, which show these values then
-pub record Shows {T : Type 0} (held : T → Held) (i j : Inside T) (v : Spaces) : Type 0 where
-  pub sound : IsSpaces held j
-  pub view : spaces_of j ≡ v
-  pub fits : taken_frames v ≤ length i.memory.ram
-
--- after a change of one slot, which shows this
-abbrev pub Placed : {T : Type 0} → (T → Held) → Inside T → Inside T → ℕ → Option SpaceView → Type 0
-Placed held i j at y = Shows held i j (with_place (spaces_of i) at y)
-
-pub placed-as : {T : Type 0} {held : T → Held} {i j : Inside T} (at : ℕ) {y z : Option SpaceView}
-    → Placed held i j at y → y ≡ z → Placed held i j at z
-placed-as {held} {i} {j} at p e = subst (λ (o : Option SpaceView). Placed held i j at o) e p
-
--- one slot is written, through the slice of all
-abbrev pub set_in : {T : Type 0} → Inside T → FrameMemory → T → Places → ℕ → Option Space → Inside T
-set_in i k t xs at y =
-    record i {
-      memory = k;
-      translator = t;
-      places = record { items = refill (length i.places.items) i.places.items (slice_set xs at y) };
-    }
 
 module _ {T : Type 0} {held : T → Held} {i : Inside T} (is : IsSpaces held i) where
   -- one slot has another space, where a slot traded with the free frames

@@ -29,7 +29,8 @@ pub use Rattle.inode.specs.declared.InodeStat.{InodeStat}
 pub use Rattle.layout.specs.Image.{index_for, RawNode, taken_for}
 pub use Rattle.layout.specs.declared.Geometry.{Geometry}
 pub use Rattle.name_rules.proofs.Finding.{free-number, IsFree, position-None, slot-set, find-used, follow-used}
-pub use Rattle.name_rules.proofs.Finding.{is_part, is_plain, lookup-used, numbers-used, spot-parts, start-used}
+pub use Rattle.name_rules.proofs.Finding.{lookup-used, numbers-used, start-used}
+pub use Rattle.name_rules.proofs.Spots.{is_part, is_plain, spot-parts}
 pub use Rattle.name_rules.proofs.Quiet.{changed-same, emptied-is, kept-gone, kept-here, kept-none, length-kept}
 pub use Rattle.name_rules.proofs.Quiet.{releases, writes-over}
 pub use Rattle.name_rules.specs.Rules.{KeepsTree}

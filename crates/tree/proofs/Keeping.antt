@@ -13,7 +13,8 @@ use Rattle.tree.proofs.Common.{kept-gone, kept-here, kept-none, length-kept, unh
 use Rattle.unixmodel.specs.Reap.{kept}
 use Rattle.name_rules.proofs.Quiet.{is_held, IsSettled, kept-but, loses-reaped}
 use Rattle.name_rules.specs.Changes.{Changed, Loses, shape}
-use Rattle.name_rules.proofs.Changing.{keeps-linked, keeps-made, keeps-made-directory, IsNewFile, keeps-unlinked}
+use Rattle.name_rules.proofs.Adding.{keeps-linked, keeps-made, keeps-made-directory, IsNewFile}
+use Rattle.name_rules.proofs.Dropping.{keeps-unlinked}
 use Rattle.tree.specs.declared.making.Leaf.TheVariants as leaf
 use Rattle.tree.specs.declared.TreeFault.TheVariants.{Device}
 use Rattle.tree.specs.Tree.{has_failed, is_device}

@@ -15,11 +15,12 @@ use Rattle.unixmodel.specs.Memory.{overwrite}
 use Rattle.inode.specs.declared.InodeFault.{InodeFault}
 use Rattle.std.proofs.lemmas.List.Concat.{flat_map-append}
 use Rattle.tree.proofs.Places.{blocks_of-entered, entered-is, placed-behind, placed-inside, room-cases}
-use Rattle.tree.proofs.Following.{Becomes, failed}
+use Rattle.tree.proofs.Ending.{Becomes}
+use Rattle.tree.proofs.Following.{failed}
 use Rattle.std.proofs.Math.Seq.{drop-append-add, drop-append_seam, take-append-add}
-use Rattle.tree.proofs.Storing.{blocks_of-set, change-is, slot-within, taken_by, file-stores, kept-stores, never-full}
-use Rattle.tree.proofs.Storing.{rewritten-stores, rewritten-within, taken-grows, held-again, held-raw, inside-holds}
-use Rattle.tree.proofs.Storing.{inside-room, inside-after, done-inside, lost-inside, with_volume}
+use Rattle.tree.proofs.Storing.{blocks_of-set, change-is, slot-within, taken_by, kept-stores, held-again, held-raw}
+use Rattle.tree.proofs.Storing.{inside-holds, inside-room, inside-after, done-inside, lost-inside, with_volume}
+use Rattle.tree.proofs.Stored.{file-stores, never-full, rewritten-stores, rewritten-within, taken-grows}
 use Rattle.inode.specs.Store.{has_failed, is_device, with_bytes}
 use Rattle.inode.specs.declared.InodeFault.TheVariants.{Blocks, Device}
 use Rattle.inode.specs.Writing.{LacksAt}

@@ -22,9 +22,9 @@ pub use Rattle.std.specs.Prelude.{if◌then◌else◌, not, option_map, slice_ge
 pub use Rattle.frames.proofs.FreeLemmas.{among_first, among_first_not, free_of-same, further-free, IsFreeList-same}
 pub use Rattle.frames.proofs.HolderLemmas.{among-none, count-cases, count_of-append, count_of-first, count_of-other}
 pub use Rattle.frames.proofs.HolderLemmas.{distinct-count, free-holders, held-count, held-inside, holders-free}
-pub use Rattle.frames.proofs.HolderLemmas.{holders-table, IsShared-trade, none-among, not-free-held, one-holder}
-pub use Rattle.frames.proofs.HolderLemmas.{one_if-le, shared-count, single, Trades-beside, Trades-give, Trades-lengths}
-pub use Rattle.frames.proofs.HolderLemmas.{Trades-none, Trades-twice}
+pub use Rattle.frames.proofs.HolderLemmas.{IsShared-trade, none-among, not-free-held, one-holder, one_if-le}
+pub use Rattle.frames.proofs.HolderLemmas.{shared-count, single, Trades-beside, Trades-lengths}
+pub use Rattle.frames.proofs.TradeLemmas.{holders-table, Trades-give, Trades-none, Trades-twice}
 pub use Rattle.frames.specs.Free.{among, free_count, further_at, IsDuplicate, IsFreeList, SameBut}
 unfoldable pub use Rattle.frames.specs.Free.{extra_of, free_of}
 pub use Rattle.frames.specs.Holders.{count_of, IsShared, one_if, Trades}
@@ -34,8 +34,9 @@ pub use Rattle.pagetable.proofs.TreeLemmas.{KeepsTables, IsTree-same, lookup_of-
 pub use Rattle.pagetable.proofs.ShapeLemmas.{IsEmpty-tables, IsTidy-empty, only-root}
 pub use Rattle.pagetable.proofs.AgreeLemmas.{lookup-sound}
 pub use Rattle.pagetable.proofs.ShapeLemmas.{length-made, made-is, table_of-some}
-pub use Rattle.pagetable.proofs.TreeLemmas.{free-first, free_count-taken, further-same, low_is_node, mid_is_node}
-pub use Rattle.pagetable.proofs.TreeLemmas.{missing-is, no_low, root_at, some-unless_none, tree-root}
+pub use Rattle.pagetable.proofs.WriteLemmas.{free-first, free_count-taken, further-same}
+pub use Rattle.pagetable.proofs.TreeLemmas.{low_is_node, mid_is_node, missing-is, no_low, root_at, some-unless_none}
+pub use Rattle.pagetable.proofs.TreeLemmas.{tree-root}
 pub use Rattle.pagetable.specs.Shape.{Adds, IsEmpty, IsLast, IsTidy, IsUsed, Removes, table_of}
 unfoldable pub use Rattle.pagetable.specs.Shape.{made}
 pub use Rattle.pagetable.specs.Tree.{HasTable, IsLeafMarks, IsNode, IsPaged, IsTree, Keeps, leaf_at, Low, low_node}

@@ -8,8 +8,9 @@ use Rattle.vm.proofs.Common.{registers_of, right_marks, SameOtherPages, shared_m
 use Rattle.vm.proofs.Common.{suc, sym, tables_below, Trades, Trades-lengths, Trades-none, Trades-twice, zero, ℕ, ◌++◌}
 use Rattle.vm.proofs.Common.{◌+◌, ◌-◌, ◌<◌, ◌∙◌, ◌∷◌, ◌≡◌, ◌≢◌, ◌≤◌}
 use Rattle.vm.proofs.Added.{IsBefore, next-held, next-pages, next-trades, next-trap, share-stands}
-use Rattle.vm.proofs.DenseLemmas.{Trades-held, Trades-with, count-held, frame_at-is, frame_at-same, frames_for-more}
-use Rattle.vm.proofs.DenseLemmas.{IsNext, length-held, missing-next, page-held, pages_below-more, pages_below-zero}
+use Rattle.vm.proofs.BesideLemmas.{Trades-held, Trades-with, IsNext}
+use Rattle.vm.proofs.HeldLemmas.{count-held, frames_for-more, length-held, page-held}
+use Rattle.vm.proofs.DenseLemmas.{frame_at-is, frame_at-same, missing-next, pages_below-more, pages_below-zero}
 use Rattle.vm.proofs.PageLemmas.{get_or-pages}
 use Rattle.vm.proofs.StoreLemmas.{pages-same}
 

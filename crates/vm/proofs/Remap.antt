@@ -10,9 +10,10 @@ use Rattle.vm.proofs.Common.{not-free-held, one_if, one_if-le, OwnsFrames, Page,
 use Rattle.vm.proofs.Common.{pages_in, Perm, refl, Reframes, right_marks, SameMap, SameTables, slice_set, Some, Space}
 use Rattle.vm.proofs.Common.{subst, suc, sym, table_at-same, tables_below, Trades, Trades-twice, true, unwrap_or}
 use Rattle.vm.proofs.Common.{user_leaf, zero, ℕ, ◌+◌, ◌<◌, ◌^◌, ◌∙◌, ◌∷◌, ◌≡◌, ◌≢◌, ◌≤◌, ◌⊎◌}
-use Rattle.vm.proofs.DenseLemmas.{alone-set, beyond-held, count-held, dense-set, frame_at-is, frame_at-same}
-use Rattle.vm.proofs.DenseLemmas.{frames_below-same, IsTidy-same, list-after, marks_at-is, page-held, page-kept}
-use Rattle.vm.proofs.DenseLemmas.{paged-same, pages-each, table-held, tables_below-same}
+use Rattle.vm.proofs.DenseLemmas.{alone-set, dense-set, frame_at-is, frame_at-same, frames_below-same, IsTidy-same}
+use Rattle.vm.proofs.DenseLemmas.{marks_at-is, tables_below-same}
+use Rattle.vm.proofs.BesideLemmas.{beyond-held, list-after, page-kept, paged-same, pages-each}
+use Rattle.vm.proofs.HeldLemmas.{count-held, page-held, table-held}
 use Rattle.vm.proofs.PageLemmas.{leaf-user, leaf-valid, right-leaf}
 
 -- Page p, whose frame was f, has frame g and these marks now. Frame g is f, or was free and has f's bytes.

@@ -10,7 +10,8 @@ use Rattle.vm.proofs.Common.{OthersTrade, refl, replicate, set-get_or, shared-co
 use Rattle.vm.proofs.Common.{suc, sum_by, sum_by-cons, sym, Trades, true, zero, ℕ, ◌++◌, ◌+◌, ◌<◌, ◌∙◌, ◌∷◌, ◌≡◌, ◌≢◌}
 use Rattle.vm.proofs.Common.{◌≤◌}
 use Rattle.frames.proofs.HolderLemmas.{same-further, same-holders, same-list, same-shared}
-use Rattle.vm.proofs.DenseLemmas.{alone-stays, Trades-space, Trades-untouched, length-held}
+use Rattle.vm.proofs.BesideLemmas.{alone-stays, Trades-space, Trades-untouched}
+use Rattle.vm.proofs.HeldLemmas.{length-held}
 
 -- ---- counts in a list of slots
 

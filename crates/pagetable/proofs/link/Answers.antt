@@ -1,5 +1,6 @@
 use Rattle.pagetable.proofs.Common.{among_first_not, ap, arith, free_of, Links, sym, ◌∙◌, ◌∷◌}
-use Rattle.pagetable.proofs.TreeLemmas.{free-first, free-link, Links-put}
+use Rattle.pagetable.proofs.WriteLemmas.{free-first, free-link}
+use Rattle.pagetable.proofs.TreeLemmas.{Links-put}
 use Rattle.pagetable.proofs.link.Goals as goal
 
 pub zero-requires : goal.zero-requires

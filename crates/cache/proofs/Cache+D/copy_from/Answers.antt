@@ -1,5 +1,6 @@
 use Rattle.std.proofs.Common.{ap, ◌∙◌}
-use Rattle.cache.proofs.Overlays.{AreKept-nil, inside-kept, overlay-nil}
+use Rattle.cache.proofs.Overlays.{AreKept-nil, overlay-nil}
+use Rattle.cache.proofs.Flushing.{inside-kept}
 use Rattle.cache.proofs.Common.{overlay}
 use Rattle.cache.proofs.Cache+D.copy_from.Goals as goal
 

@@ -1,4 +1,4 @@
-use Rattle.cache.proofs.Overlays.{more}
+use Rattle.cache.proofs.Flushing.{more}
 use Rattle.cache.proofs.held.duplicates.Goals as goal
 
 pub block-preserved : goal.block-preserved

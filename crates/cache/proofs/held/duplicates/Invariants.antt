@@ -1,4 +1,4 @@
-use Rattle.cache.proofs.Overlays.{IsHalf}
+use Rattle.cache.proofs.Flushing.{IsHalf}
 use Rattle.cache.proofs.held.duplicates.Given as goal
 
 abbrev pub invariant-block : goal.invariant-block

@@ -1,5 +1,5 @@
 use Rattle.std.proofs.Common.{refl, rules, ◌∙◌}
-use Rattle.cache.proofs.Overlays.{set-all, set-more, set-none, set-within}
+use Rattle.cache.proofs.Flushing.{set-all, set-more, set-none, set-within}
 use Rattle.cache.proofs.held.set_held.Goals as goal
 
 pub set-requires : goal.set-requires

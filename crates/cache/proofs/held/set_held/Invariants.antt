@@ -1,5 +1,5 @@
 use Rattle.std.proofs.Common.{◌≡◌}
-use Rattle.cache.proofs.Overlays.{IsSetFrom}
+use Rattle.cache.proofs.Flushing.{IsSetFrom}
 use Rattle.cache.proofs.held.set_held.Given as goal
 
 abbrev pub invariant-block : goal.invariant-block

@@ -1,6 +1,6 @@
 use Rattle.calls.proofs.Common.{ap, Fstat, fstat_row, here-of, low, refl, ◌∙◌}
 use Rattle.calls.proofs.Acts.{unnamed}
-use Rattle.calls.proofs.Stores.{fstat-acts, fstat-can, fstat-nodeless, fstat-there, fstat-unwritable}
+use Rattle.calls.proofs.Attributes.{fstat-acts, fstat-can, fstat-nodeless, fstat-there, fstat-unwritable}
 use Rattle.calls.proofs.file_calls.fstat.Goals as goal
 
 pub returns-in_default : goal.returns-in_default

@@ -1,5 +1,5 @@
 use Rattle.calls.proofs.Common.{ap, le, refl, stat_told, zeros, ◌∙◌}
-use Rattle.calls.proofs.Stores.{le-4, le-8}
+use Rattle.calls.proofs.Attributes.{le-4, le-8}
 use Rattle.calls.proofs.file_calls.stat_bytes.Goals as goal
 
 pub returns : goal.returns

@@ -1,5 +1,6 @@
 use Rattle.calls.proofs.Common.{here-of, refl, Unlink, unlink_row}
-use Rattle.calls.proofs.Names.{pathless, unlink-acts}
+use Rattle.calls.proofs.Names.{pathless}
+use Rattle.calls.proofs.Unlinks.{unlink-acts}
 use Rattle.calls.proofs.name_calls.unlink.Goals as goal
 
 pub returns-in_default : goal.returns-in_default

@@ -1,6 +1,7 @@
 use Rattle.calls.proofs.Common.{ap, has_seat, here-of, Kernel, Open, sym, ◌∙◌}
 use Rattle.calls.proofs.Names.{after-look, read-runs}
-use Rattle.calls.proofs.Opens.{cut-runs, may-open-cut, node-then, open-closed, open-found, open-full, open-node}
+use Rattle.calls.proofs.Openable.{cut-runs}
+use Rattle.calls.proofs.Opens.{may-open-cut, node-then, open-closed, open-found, open-full, open-node}
 use Rattle.calls.proofs.Acts.{err-lost}
 use Rattle.calls.proofs.open_calls.open_found.Goals as goal
 

@@ -1,4 +1,4 @@
-use Rattle.calls.proofs.Opens.{may-be-open, opens-so}
+use Rattle.calls.proofs.Openable.{may-be-open, opens-so}
 use Rattle.calls.proofs.open_calls.open_on.Goals as goal
 
 pub open_on-descriptor-requires : goal.open_on-descriptor-requires

@@ -1,5 +1,5 @@
 use Rattle.calls.proofs.Common.{here-of, sym, ◌∙◌}
-use Rattle.calls.proofs.Processes.{wait-begins, wait-childless, wait-unwritable}
+use Rattle.calls.proofs.Waits.{wait-begins, wait-childless, wait-unwritable}
 use Rattle.calls.proofs.process_calls.wait.Goals.{then-not-has_child-via-else-not-has_child+then-not-can_answer}
 use Rattle.calls.proofs.process_calls.wait.Goals.{then-not-has_child-via-then-not-has_child}
 use Rattle.calls.proofs.process_calls.wait.Goals as goal

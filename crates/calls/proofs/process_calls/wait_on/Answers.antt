@@ -1,7 +1,7 @@
 use Rattle.calls.proofs.Common.{here-of, rules, sym, to_z-of_z}
 use Rattle.std.proofs.Common.{w32}
 use mir.Val.{SFits}
-use Rattle.calls.proofs.Processes.{collects, collects-can, wait-blocks}
+use Rattle.calls.proofs.Waits.{collects, collects-can, wait-blocks}
 use Rattle.calls.proofs.process_calls.wait_on.Goals as goal
 
 pub returns-in_default : goal.returns-in_default

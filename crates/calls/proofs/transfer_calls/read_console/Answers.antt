@@ -1,5 +1,5 @@
 use Rattle.calls.proofs.Common.{arith, ◌∙◌}
-use Rattle.calls.proofs.Sends.{reads-fit, reads-on, reads-over, reads-write, took-of}
+use Rattle.calls.proofs.Receives.{reads-fit, reads-on, reads-over, reads-write, took-of}
 use Rattle.calls.proofs.transfer_calls.read_console.Goals as goal
 
 pub overflow_add-address : goal.overflow_add-address

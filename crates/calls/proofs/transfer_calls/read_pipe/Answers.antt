@@ -1,4 +1,4 @@
-use Rattle.calls.proofs.Sends.{reads-ended, reads-taken, reads-waiting}
+use Rattle.calls.proofs.Receives.{reads-ended, reads-taken, reads-waiting}
 use Rattle.calls.proofs.Transfers.{transfer-stands}
 use Rattle.calls.proofs.transfer_calls.read_pipe.Goals as goal
 

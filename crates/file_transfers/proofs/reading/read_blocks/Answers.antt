@@ -1,6 +1,6 @@
 use Rattle.std.proofs.Common.{arith}
-use Rattle.file_transfers.proofs.Memory.{next-low, read-all, read-more, read-none, read-short, read-writes, size-fits}
-use Rattle.file_transfers.proofs.Memory.{size-whole}
+use Rattle.file_transfers.proofs.Pieces.{next-low, read-all, read-more, read-none, read-short, read-writes, size-fits}
+use Rattle.file_transfers.proofs.Pieces.{size-whole}
 use Rattle.file_transfers.proofs.reading.read_blocks.Goals as goal
 
 pub loop-done-init : goal.loop-done-init

@@ -1,5 +1,5 @@
 use Rattle.std.proofs.Common.{◌-◌}
-use Rattle.file_transfers.proofs.Memory.{HasRead}
+use Rattle.file_transfers.proofs.Pieces.{HasRead}
 use Rattle.file_transfers.proofs.reading.read_blocks.Given as goal
 
 -- the bytes so far are read

@@ -1,5 +1,5 @@
 use Rattle.file_transfers.proofs.Common.{◌≡◌, Ok, subst, sym, true, IsRead, with_read, Serves, view_at, can_write}
-use Rattle.file_transfers.proofs.Memory.{front-long, none-read}
+use Rattle.file_transfers.proofs.Pieces.{front-long, none-read}
 use Rattle.file_transfers.proofs.reading.read_node.Goals as goal
 
 pub read_piece-requires-clause-writable : goal.read_piece-requires-clause-writable

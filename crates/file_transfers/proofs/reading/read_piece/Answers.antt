@@ -1,5 +1,5 @@
 use Rattle.file_transfers.proofs.Common.{arith, sym, length-take, length-take-le, page-there}
-use Rattle.file_transfers.proofs.Memory.{piece-fits}
+use Rattle.file_transfers.proofs.Pieces.{piece-fits}
 use Rattle.file_transfers.proofs.reading.read_piece.Goals as goal
 
 pub slice_bounds-fill-end : goal.slice_bounds-fill-end

@@ -1,7 +1,7 @@
 use Rattle.std.proofs.Common.{◌≡◌, ◌-◌, arith}
 use Rattle.frames.specs.Free.{further_at}
 use Rattle.frames.proofs.FreeLemmas.{count-read, further-is, free_count-list}
-use Rattle.frames.proofs.HolderLemmas.{holders-list}
+use Rattle.frames.proofs.TradeLemmas.{holders-list}
 use Rattle.frames.proofs.Frames.give.Goals as goal
 use Rattle.frames.proofs.Frames.give.Goals.{After-index}
 

@@ -2,7 +2,8 @@ use Rattle.std.proofs.Common.{◌≡◌, ◌<◌, ◌+◌, length, arith, refl, 
 use Rattle.frames.specs.Free.{free_of, counted}
 use Rattle.frames.proofs.FreeLemmas.{count-le, count-read, length-free_of, further-le, none-free, free_count-fewer}
 use Rattle.frames.proofs.FreeLemmas.{IsFreeList-count}
-use Rattle.frames.proofs.HolderLemmas.{held-inside, holders-counted, holders-more}
+use Rattle.frames.proofs.HolderLemmas.{held-inside, holders-counted}
+use Rattle.frames.proofs.TradeLemmas.{holders-more}
 use Rattle.frames.proofs.Frames.share.Goals as goal
 use Rattle.frames.proofs.Frames.share.Goals.{After-index_mut}
 

@@ -1,6 +1,7 @@
 use Rattle.std.proofs.Common.{arith, refl, ap}
 use Rattle.frames.specs.Holders.{count_of}
-use Rattle.frames.proofs.HolderLemmas.{held-inside, not-free-held, holders-table}
+use Rattle.frames.proofs.HolderLemmas.{held-inside, not-free-held}
+use Rattle.frames.proofs.TradeLemmas.{holders-table}
 use Rattle.frames.proofs.Frames.split.Goals as goal
 
 pub unshare-requires-clause-shared : goal.unshare-requires-clause-shared

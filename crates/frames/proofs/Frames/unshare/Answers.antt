@@ -2,7 +2,7 @@ use Rattle.std.proofs.Common.{◌≡◌, ◌<◌, ◌-◌, length, arith, refl}
 use Rattle.frames.specs.Free.{free_of, counted}
 use Rattle.frames.proofs.FreeLemmas.{count-read, further-held, further-is, shared-some, free_count-more}
 use Rattle.frames.proofs.FreeLemmas.{IsFreeList-count}
-use Rattle.frames.proofs.HolderLemmas.{holders-fewer}
+use Rattle.frames.proofs.TradeLemmas.{holders-fewer}
 use Rattle.frames.proofs.Frames.unshare.Goals as goal
 use Rattle.frames.proofs.Frames.unshare.Goals.{After-index_mut}
 

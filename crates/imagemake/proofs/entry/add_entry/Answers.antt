@@ -1,6 +1,7 @@
 use Rattle.imagemake.proofs.Common.{◌≡◌, ◌+◌, ap, arith, length, refl, ◌∙◌, length_push}
 use Rattle.imagemake.proofs.Common.{err_from_is_err_and, thing_of, le-leb}
-use Rattle.imagemake.proofs.MadeSearch.{AddsEntry-stored, CanAdd-next, made-few, refused-stored, entry-spot}
+use Rattle.imagemake.proofs.MadeSearch.{AddsEntry-stored, CanAdd-next, made-few, refused-stored}
+use Rattle.imagemake.proofs.MadePaths.{entry-spot}
 use Rattle.imagemake.proofs.Putting.{Owns-done, Owns-other, Blames-stored, none-done, told_err}
 use Rattle.imagemake.proofs.Things.{folder-thing}
 use Rattle.imagemake.proofs.entry.add_entry.Goals as goal

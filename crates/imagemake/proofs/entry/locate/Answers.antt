@@ -1,5 +1,5 @@
 use Rattle.imagemake.proofs.Common.{ap, is_some, refl, sym, ◌∙◌}
-use Rattle.imagemake.proofs.MadeSearch.{entry-at, entry-name, entry-reaches, path-is, reaches, spot-at}
+use Rattle.imagemake.proofs.MadePaths.{entry-at, entry-name, entry-reaches, path-is, reaches, spot-at}
 use Rattle.imagemake.proofs.entry.locate.Goals as goal
 
 pub returns-then-not-is_path-clause-refused : goal.returns-then-not-is_path-clause-refused

@@ -1,5 +1,5 @@
 use Rattle.imagemake.proofs.Common.{arith, now-begin, lost-served, Directory}
-use Rattle.imagemake.proofs.Putting.{looks-done, room-end-at, room-full-at}
+use Rattle.imagemake.proofs.Filling.{looks-done, room-end-at, room-full-at}
 use Rattle.imagemake.proofs.store.last_place.Goals as goal
 
 pub stat-requires : goal.stat-requires

@@ -1,5 +1,6 @@
 use Rattle.imagemake.proofs.Common.{[], inl, inr, subst, sym, ◌∙◌, IsNow, now-begin}
-use Rattle.imagemake.proofs.Putting.{fill-less, fill-long, fill-whole, puts-done, puts-full, puts-lost}
+use Rattle.imagemake.proofs.Filling.{fill-less, fill-long, fill-whole}
+use Rattle.imagemake.proofs.Putting.{puts-done, puts-full, puts-lost}
 use Rattle.imagemake.proofs.store.put_bytes.Goals as goal
 
 pub write-requires : goal.write-requires

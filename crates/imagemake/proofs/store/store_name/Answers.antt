@@ -2,8 +2,9 @@ use Rattle.imagemake.proofs.Common.{◌≡◌, ap, arith, subst, sym, ◌∙◌,
 use Rattle.imagemake.proofs.Common.{Files, change_node, put, slot, appended, linked, more_links, IsNow, now-begin}
 use Rattle.imagemake.proofs.Common.{now-files, now-limit, now-read, now-up, some-now, now-changed, HasDirectory, Puts}
 use Rattle.imagemake.proofs.Common.{blocks_of, Entry, Directory}
-use Rattle.imagemake.proofs.Putting.{lacks-growth, lacks-place, named-is, named-linked, now-looked, room-at, room-now}
-use Rattle.imagemake.proofs.Putting.{room-was, within, puts-done, puts-full, puts-lost, slot-put}
+use Rattle.imagemake.proofs.Filling.{lacks-growth, lacks-place, named-is, named-linked, now-looked, room-at, room-now}
+use Rattle.imagemake.proofs.Filling.{room-was, within}
+use Rattle.imagemake.proofs.Putting.{puts-done, puts-full, puts-lost, slot-put}
 use Rattle.imagemake.proofs.Things.{thing-folder, thing-unlinked}
 use Rattle.imagemake.proofs.store.store_name.Given as given
 use Rattle.imagemake.proofs.store.store_name.Goals as goal

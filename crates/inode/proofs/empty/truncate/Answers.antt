@@ -1,7 +1,7 @@
 use Rattle.cache.proofs.Using.{goes-after, goes-stays, step-failed, step-last}
 use Rattle.balloc.proofs.Counting.{emptied_fits}
 use Rattle.inode.proofs.Emptying.{Wrote-empty}
-use Rattle.inode.proofs.Growing.{HasInode-read, IsInHand-read}
+use Rattle.inode.proofs.Reading.{HasInode-read, IsInHand-read}
 use Rattle.inode.proofs.empty.truncate.Goals as goal
 
 pub read_inode-requires : goal.read_inode-requires

@@ -1,5 +1,5 @@
 use Rattle.inode.proofs.Common.{◌/◌, ◌∙◌, ap, arith, refl, subst, Fits, inode_of, slot_in}
-use Rattle.inode.proofs.Growing.{HasInode-read, index_in_disk, slot_asked}
+use Rattle.inode.proofs.Reading.{HasInode-read, index_in_disk, slot_asked}
 use Rattle.inode.proofs.find.find.Goals as goal
 
 pub number_of-requires-clause-asked : goal.number_of-requires-clause-asked

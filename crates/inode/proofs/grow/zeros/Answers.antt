@@ -1,4 +1,4 @@
-use Rattle.layout.proofs.GrowLemmas.{zero_at}
+use Rattle.layout.proofs.SoundLemmas.{zero_at}
 use Rattle.inode.proofs.grow.zeros.Goals as goal
 
 pub returns : goal.returns

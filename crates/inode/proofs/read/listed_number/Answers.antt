@@ -1,6 +1,6 @@
 use Rattle.inode.proofs.Common.{◌∙◌, ap, subst, sym, block_at, goes-stays, step-failed, step-last, number_at, Asks}
 use Rattle.inode.proofs.Common.{holder_of, in_record, slot_in, asks_holder, holder-holder}
-use Rattle.inode.proofs.Growing.{found_in, holder_lies}
+use Rattle.inode.proofs.Reading.{found_in, holder_lies}
 use Rattle.inode.proofs.read.listed_number.Goals as goal
 
 pub returns-in_err-block : goal.returns-in_err-block

@@ -1,7 +1,7 @@
 use Rattle.inode.proofs.Common.{ap, arith, refl, sym, ◌∙◌, goes-stays, read-done, step-failed, DiskInode}
 use Rattle.std.proofs.lemmas.Bool.{iff_false}
 use Rattle.layout.proofs.KindLemmas.{read-free}
-use Rattle.inode.proofs.Growing.{told-inode, used-inode}
+use Rattle.inode.proofs.Reading.{told-inode, used-inode}
 use Rattle.inode.proofs.read.look.Goals as goal
 use Rattle.inode.proofs.read.look.Goals.{then-number-eq0-via-else-number-eq0+then-number-geometry}
 use Rattle.inode.proofs.read.look.Goals.{then-number-eq0-via-then-number-eq0}

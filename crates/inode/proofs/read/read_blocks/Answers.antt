@@ -1,7 +1,7 @@
 use Rattle.inode.proofs.Common.{◌≡◌, ◌+◌, ◌/◌, ◌∙◌, ap, arith, length, refl, block_at, goes-after, goes-stays}
 use Rattle.inode.proofs.Common.{goes-twice, read-done, step-failed}
-use Rattle.inode.proofs.Growing.{HasInode-read, chunk_below, chunk_within, count_of, index_in_disk, read-chunk}
-use Rattle.inode.proofs.Growing.{slot_asked, slot_block, slot_in_disk}
+use Rattle.inode.proofs.Reading.{HasInode-read, chunk_below, chunk_within, count_of, index_in_disk, read-chunk}
+use Rattle.inode.proofs.Reading.{slot_asked, slot_block, slot_in_disk}
 use Rattle.inode.proofs.read.read_blocks.Goals as goal
 
 pub read_inode-requires : goal.read_inode-requires

@@ -1,5 +1,5 @@
 use Rattle.cache.proofs.Using.{read-done}
-use Rattle.inode.proofs.Growing.{told-inode}
+use Rattle.inode.proofs.Reading.{told-inode}
 use Rattle.inode.proofs.read.stat.Goals as goal
 
 pub returns : goal.returns

@@ -1,6 +1,6 @@
 use Rattle.cache.proofs.Using.{goes-stays, step-failed, step-last}
 use Rattle.inode.proofs.Filling.{linked}
-use Rattle.inode.proofs.Growing.{HasInode-read}
+use Rattle.inode.proofs.Reading.{HasInode-read}
 use Rattle.inode.proofs.write.set_links.Goals as goal
 
 pub read_inode-requires : goal.read_inode-requires

@@ -1,5 +1,6 @@
 use Rattle.inode.proofs.Common.{arith, sym, goes-after, goes-stays, step-done, step-failed}
-use Rattle.inode.proofs.Growing.{own_fits, own_length, HasInode-read, IsInHand-read}
+use Rattle.inode.proofs.Growing.{own_fits, own_length}
+use Rattle.inode.proofs.Reading.{HasInode-read, IsInHand-read}
 use Rattle.inode.proofs.write.write_blocks.Goals as goal
 
 pub read_inode-requires : goal.read_inode-requires

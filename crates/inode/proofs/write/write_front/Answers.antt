@@ -1,7 +1,8 @@
 use Rattle.inode.proofs.Common.{arith, refl, subst, goes-after, goes-stays, step-done, step-failed, HasInode-of}
 use Rattle.inode.proofs.Common.{PutsPiece}
-use Rattle.inode.proofs.Filling.{Wrote-begin, Wrote-piece, front-ends, piece_less, piece_room, piece_short, piece_some}
-use Rattle.inode.proofs.Filling.{piece_within, place_within, Puts-held}
+use Rattle.inode.proofs.Pieces.{Wrote-begin, Wrote-piece, front-ends, piece_less, piece_room, piece_short, piece_some}
+use Rattle.inode.proofs.Pieces.{piece_within, place_within}
+use Rattle.inode.proofs.Filling.{Puts-held}
 use Rattle.inode.proofs.write.write_front.Goals as goal
 
 pub piece-init : goal.piece-init

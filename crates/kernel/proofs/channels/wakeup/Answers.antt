@@ -1,5 +1,6 @@
 use Rattle.kernel.proofs.Common.{ap, arith, sym, ◌∙◌, ◌≡◌, option_copied, waits_on, Places, woken, slot, holds}
-use Rattle.kernel.proofs.Watching.{Roused, roused-begins, roused-low, roused-more, roused-rest, roused-same, roused-to}
+use Rattle.kernel.proofs.Watching.{Roused, roused-begins, roused-low, roused-rest, roused-to}
+use Rattle.kernel.proofs.Asleep.{roused-more, roused-same}
 use Rattle.kernel.proofs.channels.wakeup.Goals.{else-waits, in-None, in-Some-process, then-waits}
 use Rattle.kernel.proofs.channels.wakeup.Goals as goal
 

@@ -1,5 +1,5 @@
 use Rattle.kernel.proofs.Common.{sym, ◌∙◌, ap, Some}
-use Rattle.kernel.proofs.Named.{stands-last}
+use Rattle.kernel.proofs.Leaving.{stands-last}
 use Rattle.kernel.proofs.descriptors.close.Goals as goal
 
 pub destroy_pipe-requires : goal.destroy_pipe-requires

@@ -1,5 +1,5 @@
 use Rattle.kernel.proofs.Common.{ap, append-nil, arith, sym, ◌∙◌, ◌++◌, last_node, listed}
-use Rattle.kernel.proofs.Named.{closes-none, closes-some, closing-all}
+use Rattle.kernel.proofs.Leaving.{closes-none, closes-some, closing-all}
 use Rattle.kernel.proofs.descriptors.close_all.Goals as goal
 use Rattle.kernel.proofs.descriptors.close_all.Goals.{in-Some+in-Some-close, in-Some+in_default-close, in_default}
 

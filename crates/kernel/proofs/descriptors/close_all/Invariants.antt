@@ -1,4 +1,4 @@
-use Rattle.kernel.proofs.Named.{IsClosing}
+use Rattle.kernel.proofs.Leaving.{IsClosing}
 use Rattle.kernel.proofs.descriptors.close_all.Given as goal
 
 abbrev pub invariant-loop-descriptor : goal.invariant-loop-descriptor

@@ -1,5 +1,5 @@
 use Rattle.kernel.proofs.Common.{ap, arith, drop_all, refl, sym, ◌∙◌, all_dropped}
-use Rattle.kernel.proofs.Steps.{counted, held-next, lets-fails, lets-more}
+use Rattle.kernel.proofs.Ending.{counted, held-next, lets-fails, lets-more}
 use Rattle.kernel.proofs.descriptors.let_go.Goals as goal
 
 pub loop-node-init : goal.loop-node-init

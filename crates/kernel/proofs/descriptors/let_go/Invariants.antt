@@ -1,4 +1,4 @@
-use Rattle.kernel.proofs.Steps.{IsLetting}
+use Rattle.kernel.proofs.Ending.{IsLetting}
 use Rattle.kernel.proofs.descriptors.let_go.Given as goal
 
 abbrev pub invariant-loop-node : goal.invariant-loop-node

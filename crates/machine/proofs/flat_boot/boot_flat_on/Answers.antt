@@ -1,8 +1,9 @@
 use Rattle.machine.proofs.Common.{ap, arith, FileTree, first_kernel, flat_space, Kernel, refl, Some, state_of, sym}
 use Rattle.machine.proofs.Common.{View, watched-all, ◌∙◌, ◌≡◌}
 use Rattle.machine.proofs.flat_boot.boot_flat_on.Goals as goal
-use Rattle.machine.proofs.FlatLemmas.{few-console, few-root, first-sound, flat-size, frames-of, hold-console, hold-root}
-use Rattle.machine.proofs.FlatLemmas.{length-flat, none-of, start-fits, start-over}
+use Rattle.machine.proofs.FlatLemmas.{few-console, few-root, first-sound, hold-console, hold-root, length-flat}
+use Rattle.machine.proofs.FlatLemmas.{start-fits, start-over}
+use Rattle.machine.proofs.FlatSpaces.{flat-size, frames-of, none-of}
 
 pub load-requires : goal.load-requires
 load-requires g c = none-of c.in-Ok.ensures

@@ -1,5 +1,5 @@
 use Rattle.machine.proofs.flat_boot.boot_flat_with.Goals as goal
-use Rattle.machine.proofs.FlatLemmas.{counted-flat, only-flat}
+use Rattle.machine.proofs.FlatSpaces.{counted-flat, only-flat}
 use Rattle.std.proofs.Common.{arith}
 
 pub returns : goal.returns

@@ -1,8 +1,8 @@
 use Rattle.machine.proofs.flat_boot.load.Given as given
 use Rattle.machine.proofs.flat_boot.load.Goals.{After-fill}
 use Rattle.machine.proofs.flat_boot.load.Goals as goal
-use Rattle.machine.proofs.FlatLemmas.{alone-space, created, fill-inside, filled-made, filled_segment, first-free}
-use Rattle.machine.proofs.FlatLemmas.{flat-loaded, guard-made, guard-over, segment-made, segment-over}
+use Rattle.machine.proofs.FlatSpaces.{alone-space, created, fill-inside, filled-made, filled_segment, first-free}
+use Rattle.machine.proofs.FlatSpaces.{flat-loaded, guard-made, guard-over, segment-made, segment-over}
 use Rattle.std.proofs.Common.{arith, ◌≡◌}
 use Rattle.machine.specs.Flat.{alone}
 

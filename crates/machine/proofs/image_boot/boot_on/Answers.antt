@@ -1,7 +1,7 @@
 use Rattle.machine.proofs.image_boot.boot_on.Goals as goal
 use Rattle.machine.proofs.Common.{ap, arith, FileTree, Kernel, refl, Rises, subst, sym, watched-all, ◌∙◌, ◌≤◌}
-use Rattle.machine.proofs.Booting.{begun-init, kernel-sound, not-begun, root-few, root-there}
-use Rattle.machine.proofs.FlatLemmas.{frames-of, none-of}
+use Rattle.machine.proofs.Beginning.{begun-init, kernel-sound, not-begun, root-few, root-there}
+use Rattle.machine.proofs.FlatSpaces.{frames-of, none-of}
 
 pub new-kernel-requires : goal.new-kernel-requires
 new-kernel-requires g c = record {

@@ -1,5 +1,5 @@
 use Rattle.machine.proofs.image_boot.put_init.Goals as goal
-use Rattle.machine.proofs.FlatLemmas.{first-free}
+use Rattle.machine.proofs.FlatSpaces.{first-free}
 use Rattle.machine.proofs.Booting.{in-place, ready}
 
 pub returns-clause-put : goal.returns-clause-put

@@ -1,6 +1,7 @@
 use Rattle.pagetable.proofs.Common.{ap, arith, mid_node, refl, sym, ◌∙◌, ◌∷◌}
 use Rattle.pagetable.proofs.ShapeLemmas.{Adds-by, Inserts-after, IsMapped, mapped-by}
-use Rattle.pagetable.proofs.TreeLemmas.{changes-twice, low_is_node, mid_is_node, missing-is, no_low, rewrites-changes}
+use Rattle.pagetable.proofs.WriteLemmas.{changes-twice, rewrites-changes}
+use Rattle.pagetable.proofs.TreeLemmas.{low_is_node, mid_is_node, missing-is, no_low}
 use Rattle.pagetable.proofs.PageTable.map.Goals as goal
 
 pub returns-then-free-lt1-clause-refused : goal.returns-then-free-lt1-clause-refused

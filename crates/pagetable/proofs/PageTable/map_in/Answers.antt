@@ -1,5 +1,5 @@
 use Rattle.pagetable.proofs.ShapeLemmas.{Adds-none, IsTidy-insert}
-use Rattle.pagetable.proofs.TreeLemmas.{rewrites-changes}
+use Rattle.pagetable.proofs.WriteLemmas.{rewrites-changes}
 use Rattle.pagetable.proofs.PageTable.map_in.Goals as goal
 
 pub returns-clause-mapped : goal.returns-clause-mapped

@@ -1,5 +1,5 @@
 use Rattle.pagetable.proofs.ShapeLemmas.{IsPaged-new, IsTidy-empty}
-use Rattle.pagetable.proofs.TreeLemmas.{free-first}
+use Rattle.pagetable.proofs.WriteLemmas.{free-first}
 use Rattle.pagetable.proofs.PageTable.new.Goals as goal
 
 pub zero-requires : goal.zero-requires

@@ -2,7 +2,8 @@ use Rattle.pagetable.proofs.Common.{low_node, mid_node, inl, inr, refl, sym, ◌
 use Rattle.pagetable.proofs.ShapeLemmas.{Adds-by, both-drops, both-removes, both-tidy}
 use Rattle.pagetable.proofs.ShapeLemmas.{IsTidy-remove, IsWay, low-drops, low-mid, low-removes, some-none, used-low}
 use Rattle.pagetable.proofs.ShapeLemmas.{used-mid}
-use Rattle.pagetable.proofs.TreeLemmas.{changes-twice, low_is_node, mid_is_node, rewrites-changes}
+use Rattle.pagetable.proofs.WriteLemmas.{changes-twice, rewrites-changes}
+use Rattle.pagetable.proofs.TreeLemmas.{low_is_node, mid_is_node}
 use Rattle.pagetable.proofs.PageTable.unmap.Goals as goal
 use Rattle.pagetable.proofs.PageTable.unmap.Goals.{After-clear_leaf}
 

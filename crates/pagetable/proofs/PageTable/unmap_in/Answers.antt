@@ -1,6 +1,7 @@
 use Rattle.pagetable.proofs.Common.{ap, arith, inl, inr, low_node, refl, sym, ℕ, ◌-◌, ◌∙◌}
 use Rattle.pagetable.proofs.ShapeLemmas.{Adds-none, IsTidy-remove, used-before}
-use Rattle.pagetable.proofs.TreeLemmas.{low_is_node, lookup_of-low, rewrites-changes, some-unless_none, tree-leaf_sound}
+use Rattle.pagetable.proofs.TreeLemmas.{low_is_node, lookup_of-low, some-unless_none, tree-leaf_sound}
+use Rattle.pagetable.proofs.WriteLemmas.{rewrites-changes}
 use Rattle.std.specs.Option.{option_map}
 use Rattle.pagetable.proofs.PageTable.unmap_in.Goals as goal
 

@@ -1,7 +1,8 @@
 use Rattle.pagetable.proofs.Common.{low_node, ◌∙◌}
 use Rattle.pagetable.proofs.ShapeLemmas.{both-drops, both-removes, both-tidy, IsWay, last-low}
 use Rattle.pagetable.proofs.ShapeLemmas.{last-mid, low-drops, low-mid, low-removes}
-use Rattle.pagetable.proofs.TreeLemmas.{changes-twice, low_is_node, rewrites-changes}
+use Rattle.pagetable.proofs.WriteLemmas.{changes-twice, rewrites-changes}
+use Rattle.pagetable.proofs.TreeLemmas.{low_is_node}
 use Rattle.pagetable.proofs.PageTable.unmap_last.Goals as goal
 use Rattle.pagetable.proofs.PageTable.unmap_last.Goals.{After-clear_leaf}
 

@@ -1,4 +1,4 @@
-use Rattle.proc.proofs.Waiting.{among-all, among-free, among-more, among-none}
+use Rattle.proc.proofs.Seats.{among-all, among-free, among-more, among-none}
 use Rattle.proc.proofs.table.least_above.Goals.{in-Some, in_default}
 use Rattle.proc.proofs.table.least_above.Goals as goal
 

@@ -1,5 +1,5 @@
 use Rattle.proc.specs.Next.{IsNextOf}
-use Rattle.proc.proofs.Waiting.{is_among}
+use Rattle.proc.proofs.Seats.{is_among}
 use Rattle.proc.proofs.table.least_above.Given as goal
 
 -- it is the least of those in the slots so far

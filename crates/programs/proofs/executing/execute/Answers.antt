@@ -1,8 +1,8 @@
 use Rattle.programs.proofs.Common.{arith, refl, sym, ◌∙◌, none-some}
-use Rattle.programs.proofs.Loads.{is-executed, loaded-there, not-passed, over-frames, program-kept, program-none}
-use Rattle.programs.proofs.Loads.{program-of, program-there}
+use Rattle.programs.proofs.Plans.{is-executed, loaded-there, not-passed, over-frames, program-kept, program-none}
+use Rattle.programs.proofs.Plans.{program-of, program-there}
 use Rattle.programs.proofs.Places.{held-still, room-beside}
-use Rattle.programs.proofs.Headings.{err-left, err-told, kept-is-file, kept-leaves, kept-more, kept-none, lost}
+use Rattle.programs.proofs.Reading.{err-left, err-told, kept-is-file, kept-leaves, kept-more, kept-none, lost}
 use Rattle.programs.proofs.executing.execute.Goals as goal
 
 pub returns-in_err-program : goal.returns-in_err-program

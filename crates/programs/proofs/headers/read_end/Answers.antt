@@ -1,5 +1,5 @@
 use Rattle.programs.proofs.Common.{Ok, ap, sym, ◌∙◌, end_by, file_at}
-use Rattle.programs.proofs.Headings.{end-told, kept-none, lost}
+use Rattle.programs.proofs.Reading.{end-told, kept-none, lost}
 use Rattle.programs.proofs.headers.read_end.Goals as goal
 
 pub returns-in_err-read_segment : goal.returns-in_err-read_segment

@@ -1,6 +1,6 @@
 use Rattle.programs.proofs.Common.{ap, arith, length, sym, ◌∙◌}
-use Rattle.programs.proofs.Headings.{kept-file, kept-is-file, kept-none, lost, ends-refused, head-kept, head-refused}
-use Rattle.programs.proofs.Headings.{header-fits, program-told}
+use Rattle.programs.proofs.Reading.{kept-file, kept-is-file, kept-none, lost}
+use Rattle.programs.proofs.Headings.{ends-refused, head-kept, head-refused, header-fits, program-told}
 use Rattle.programs.proofs.headers.read_headers.Goals as goal
 
 pub returns-in_default : goal.returns-in_default

@@ -1,4 +1,4 @@
-use Rattle.programs.proofs.Headings.{whole-read}
+use Rattle.programs.proofs.Reading.{whole-read}
 use Rattle.programs.proofs.headers.read_part.Goals as goal
 
 pub returns : goal.returns

@@ -1,6 +1,6 @@
 use Rattle.programs.proofs.Common.{rules, ◌∙◌, size-fits, size-whole, read-none}
 use Rattle.programs.proofs.Places.{filled-all, filled-inside, filled-kept, filled-more, has-held}
-use Rattle.programs.proofs.Headings.{err-done, err-left, kept-is-file, kept-leaves, lost}
+use Rattle.programs.proofs.Reading.{err-done, err-left, kept-is-file, kept-leaves, lost}
 use Rattle.programs.proofs.loading.fill_node.Goals as goal
 
 pub loop-done-init : goal.loop-done-init

@@ -1,6 +1,6 @@
-use Rattle.programs.proofs.Loads.{header-still, is-program, last-still, stack-fits, stack-put, stat-kept, stat-long}
+use Rattle.programs.proofs.Plans.{header-still, is-program, last-still, stack-fits, stack-put, stat-kept, stat-long}
 use Rattle.programs.proofs.Places.{has-held, is-held, left-held}
-use Rattle.programs.proofs.Headings.{err-done, err-left, kept-is-file, kept-leaves, kept-more, kept-none, lost}
+use Rattle.programs.proofs.Reading.{err-done, err-left, kept-is-file, kept-leaves, kept-more, kept-none, lost}
 use Rattle.programs.proofs.Common.{no_pages, File}
 use Rattle.programs.proofs.loading.load.Goals as goal
 

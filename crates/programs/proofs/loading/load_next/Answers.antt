@@ -1,7 +1,7 @@
 use Rattle.programs.proofs.Loads.{fits-next, is-next, never-refused, nothing-more, segment-next, skipped-next}
 use Rattle.programs.proofs.Places.{held-still}
-use Rattle.programs.proofs.Headings.{err-told, kept-file, kept-is-file, kept-leaves, kept-more, kept-none, kept-one}
-use Rattle.programs.proofs.Headings.{lost}
+use Rattle.programs.proofs.Reading.{err-told, kept-file, kept-is-file, kept-leaves, kept-more, kept-none, kept-one}
+use Rattle.programs.proofs.Reading.{lost}
 use Rattle.programs.proofs.Common.{ap, arith, length, view_at}
 use Rattle.programs.proofs.loading.load_next.Goals as goal
 

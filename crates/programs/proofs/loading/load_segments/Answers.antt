@@ -2,7 +2,7 @@ use Rattle.programs.proofs.Common.{ap, rules, sym, ◌*◌, ◌+◌, ◌∙◌, 
 use Rattle.programs.proofs.Loads.{file-long, has-now, loading-all, loading-more, next-now, none-loading, paged-now}
 use Rattle.programs.proofs.Loads.{whole-now}
 use Rattle.programs.proofs.Places.{left-held}
-use Rattle.programs.proofs.Headings.{err-left, kept-is-file}
+use Rattle.programs.proofs.Reading.{err-left, kept-is-file}
 use Rattle.programs.proofs.loading.load_segments.Goals as goal
 
 pub loop-i-init : goal.loop-i-init

@@ -2,7 +2,8 @@ use Rattle.spaces.proofs.Spaces.copy.Given as given
 use Rattle.spaces.proofs.Spaces.copy.Goals as goal
 use Rattle.spaces.proofs.Spaces.copy.Goals.{After-fence_active}
 use Rattle.spaces.proofs.Places.{stands-there}
-use Rattle.spaces.proofs.Traded.{Shows, over-forked, set_in, shared-there}
+use Rattle.spaces.proofs.Shown.{Shows, set_in}
+use Rattle.spaces.proofs.Traded.{over-forked, shared-there}
 use Rattle.spaces.proofs.Common.{spaces_of, Some, ap, copied}
 
 pub space_at-space-requires : goal.space_at-space-requires

@@ -1,7 +1,8 @@
 use Rattle.spaces.proofs.Spaces.create.Given as given
 use Rattle.spaces.proofs.Spaces.create.Goals as goal
 use Rattle.spaces.proofs.Spaces.create.Goals.{After-deref_mut}
-use Rattle.spaces.proofs.Traded.{Placed, over-free, set_in, settled-there}
+use Rattle.spaces.proofs.Shown.{Placed, set_in}
+use Rattle.spaces.proofs.Traded.{over-free, settled-there}
 use Rattle.spaces.proofs.Common.{no_pages, spaces_of, Some, ap}
 
 made : (g : given.Over) (c : After-deref_mut g)

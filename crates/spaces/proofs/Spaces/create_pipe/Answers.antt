@@ -1,4 +1,4 @@
-use Rattle.spaces.proofs.Traded.{with_holders}
+use Rattle.spaces.proofs.Shown.{with_holders}
 use Rattle.spaces.proofs.Spaces.create_pipe.Given as given
 use Rattle.spaces.proofs.Spaces.create_pipe.Goals as goal
 use Rattle.spaces.proofs.Spaces.create_pipe.Goals.{After-deref_mut}

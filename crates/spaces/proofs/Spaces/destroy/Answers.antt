@@ -2,7 +2,8 @@ use Rattle.spaces.proofs.Spaces.destroy.Given as given
 use Rattle.spaces.proofs.Spaces.destroy.Goals as goal
 use Rattle.spaces.proofs.Spaces.destroy.Goals.{After-destroy}
 use Rattle.spaces.proofs.Places.{there}
-use Rattle.spaces.proofs.Traded.{Placed, destroyed, set_in}
+use Rattle.spaces.proofs.Shown.{Placed, set_in}
+use Rattle.spaces.proofs.Traded.{destroyed}
 use Rattle.std.proofs.Common.{None, sym, ◌∙◌}
 
 pub destroy-requires : goal.destroy-requires

@@ -1,7 +1,8 @@
 use Rattle.spaces.proofs.Spaces.fill_pages.Given as given
 use Rattle.spaces.proofs.Spaces.fill_pages.Goals as goal
 use Rattle.spaces.proofs.Places.{held-is, length-pages_of, stands-there}
-use Rattle.spaces.proofs.Traded.{Placed, reframed-showing}
+use Rattle.spaces.proofs.Shown.{Placed}
+use Rattle.spaces.proofs.Traded.{reframed-showing}
 use Rattle.spaces.proofs.Common.{view_with, Some, write_bytes, pages_of}
 
 pub space_at-space-requires : goal.space_at-space-requires

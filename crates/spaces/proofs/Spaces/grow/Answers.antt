@@ -5,8 +5,8 @@ use Rattle.spaces.proofs.Common.{free_count, shown, ◌+◌, ◌++◌, ◌-◌, 
 use Rattle.spaces.proofs.Common.{sym, zero_page, frames_for, marks_from, entries_of, pages_in, pages_of, coherent-grown}
 use Rattle.spaces.proofs.Places.{held-is, there}
 use Rattle.spaces.proofs.SpacesLemmas.{err-false, ok-true, refilled}
-use Rattle.spaces.proofs.Traded.{Placed, changed, grown-front, over-grown, placed-as, resized, set_in, shown-as}
-use Rattle.spaces.proofs.Traded.{view-same}
+use Rattle.spaces.proofs.Shown.{Placed, placed-as, set_in, shown-as}
+use Rattle.spaces.proofs.Traded.{changed, grown-front, over-grown, resized, view-same}
 
 pub grow-requires : goal.grow-requires
 grow-requires g c = c.self.invariant.machine.each c.args.at c.unwrap-space.result.now

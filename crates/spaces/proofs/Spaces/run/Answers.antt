@@ -1,6 +1,7 @@
 use Rattle.spaces.proofs.Common.{refl, IsSpaces, spaces_of}
 use Rattle.spaces.proofs.SpacesLemmas.{AdvancesTo}
-use Rattle.spaces.proofs.Stepped.{ran_by, RanOn, ran-sound, ran-trap}
+use Rattle.spaces.proofs.Stepped.{ran_by}
+use Rattle.spaces.proofs.Ran.{RanOn, ran-sound, ran-trap}
 use Rattle.spaces.proofs.Spaces.run.Given as given
 use Rattle.spaces.proofs.Spaces.run.Goals as goal
 use Rattle.spaces.proofs.Spaces.run.Goals.{After-run}

@@ -2,7 +2,8 @@ use Rattle.spaces.proofs.Spaces.shrink.Given as given
 use Rattle.spaces.proofs.Spaces.shrink.Goals as goal
 use Rattle.spaces.proofs.Spaces.shrink.Goals.{After-fence_active}
 use Rattle.spaces.proofs.Places.{held-is, there}
-use Rattle.spaces.proofs.Traded.{Placed, changed, placed-as, set_in, shown-as}
+use Rattle.spaces.proofs.Shown.{Placed, placed-as, set_in, shown-as}
+use Rattle.spaces.proofs.Traded.{changed}
 use Rattle.spaces.proofs.SpacesLemmas.{refilled}
 use Rattle.spaces.proofs.Common.{view_with, shrunk, ◌≡◌, ◌-◌, Some, arith, refl, take, coherent-nothing, entries_of}
 use Rattle.spaces.proofs.Common.{pages_in, pages_of, sym}

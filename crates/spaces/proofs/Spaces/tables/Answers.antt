@@ -1,5 +1,5 @@
 use Rattle.spaces.proofs.Spaces.tables.Goals as goal
-use Rattle.spaces.proofs.Stepped.{seen-right, shows-right, let_through}
+use Rattle.spaces.proofs.Rights.{seen-right, shows-right, let_through}
 use Rattle.spaces.proofs.Places.{held-is, stands-there}
 use Rattle.vm.specs.Space.{pages_in, pages_of}
 

@@ -1,5 +1,6 @@
 use Rattle.tree.proofs.Common.{drop, length, sym, take, ◌-◌, ◌∙◌, take_rest}
-use Rattle.tree.proofs.Naming.{IfNone-of, cut-parts, cut-shorter, no-name}
+use Rattle.tree.proofs.Unlinked.{IfNone-of}
+use Rattle.tree.proofs.Naming.{cut-parts, cut-shorter, no-name}
 use Rattle.tree.proofs.path.first_name.Goals as goal
 
 pub returns-in_err-from-clause-none : goal.returns-in_err-from-clause-none

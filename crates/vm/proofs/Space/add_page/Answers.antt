@@ -1,5 +1,6 @@
 use Rattle.vm.proofs.Common.{arith, ap, ◌∙◌, replicate, get_or-set_same, frame_of, free-first}
-use Rattle.vm.proofs.DenseLemmas.{marks_at-is, IsTaken, IsTaken-set}
+use Rattle.vm.proofs.DenseLemmas.{marks_at-is}
+use Rattle.vm.proofs.BesideLemmas.{IsTaken, IsTaken-set}
 use Rattle.vm.proofs.Added.{IsBefore, taken-before, taken-fits, taken-grown, taken-nodes}
 use Rattle.vm.proofs.Tables.{for-same}
 use Rattle.vm.proofs.Space.add_page.Goals as goal

@@ -1,5 +1,5 @@
 use Rattle.vm.proofs.Common.{suc, arith, add-one, OwnsFrames}
-use Rattle.vm.proofs.Added.{IsUnmapped, dropped, give-held, give-inside, unmapped-was}
+use Rattle.vm.proofs.Removed.{IsUnmapped, dropped, give-held, give-inside, unmapped-was}
 use Rattle.vm.proofs.Tables.{for-same}
 use Rattle.vm.proofs.Space.drop_page.Goals as goal
 use Rattle.vm.proofs.Space.drop_page.Goals.{After-unmap_page-low}

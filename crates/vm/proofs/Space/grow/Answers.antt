@@ -2,7 +2,7 @@ use Rattle.vm.proofs.Common.{◌≡◌, ℕ, take, ◌+◌, ◌-◌, [], ◌∷�
 use Rattle.vm.proofs.Common.{append-nil, append_assoc, replicate_more, Trades-none, Trades-twice, held-count}
 use Rattle.vm.proofs.Common.{frames_for, held, page_with, pages_below, read_below, Perm, zero_page, entry_marks}
 use Rattle.vm.proofs.Common.{marks_from, right_marks, user_leaf, pages_in, StaysOpen}
-use Rattle.vm.proofs.DenseLemmas.{length-held}
+use Rattle.vm.proofs.HeldLemmas.{length-held}
 use Rattle.vm.proofs.PageLemmas.{leaf-user, leaf-valid, page-zero, open-fewer, open-more, take-mapping}
 use Rattle.vm.proofs.Space.grow.Goals as goal
 use Rattle.vm.proofs.Space.grow.Goals.{After-loop-page}

@@ -1,5 +1,5 @@
 use Rattle.vm.proofs.Common.{sym, ap, ◌∙◌, arith, word_of}
-use Rattle.vm.proofs.StoreLemmas.{trap-inside, saved-is, loads-start, loads-next}
+use Rattle.vm.proofs.TrapLemmas.{trap-inside, saved-is, loads-start, loads-next}
 use Rattle.vm.proofs.Space.load_regs.Goals as goal
 
 pub loop-register-init : goal.loop-register-init

@@ -1,4 +1,4 @@
-use Rattle.vm.proofs.StoreLemmas.{Loads}
+use Rattle.vm.proofs.TrapLemmas.{Loads}
 use Rattle.vm.proofs.Space.load_regs.Given as goal
 
 abbrev pub invariant-loop-register : goal.invariant-loop-register

@@ -1,6 +1,6 @@
 use Rattle.vm.proofs.Common.{arith, low_node, refl, ◌∙◌}
 use Rattle.vm.proofs.Added.{ok-unless_err}
-use Rattle.vm.proofs.DenseLemmas.{OwnsFrames-paged}
+use Rattle.vm.proofs.BesideLemmas.{OwnsFrames-paged}
 use Rattle.vm.proofs.Tables.{low-after, next-there}
 use Rattle.pagetable.proofs.TreeLemmas.{low_is_node}
 use Rattle.vm.proofs.Space.map_page.Goals as goal

@@ -1,7 +1,7 @@
 use Rattle.vm.proofs.Common.{arith, ap, refl, ◌∙◌, replicate, get_or-set_same, frame_of, free-first, IsTidy-empty}
-use Rattle.vm.proofs.DenseLemmas.{IsTaken-set}
-use Rattle.vm.proofs.Added.{IsMade, IsStart, ok-unless_err, start-count, start-empty, start-made, start-missing}
-use Rattle.vm.proofs.Added.{start-paged}
+use Rattle.vm.proofs.BesideLemmas.{IsTaken-set}
+use Rattle.vm.proofs.Empty.{IsMade, IsStart, start-count, start-empty, start-made, start-missing, start-paged}
+use Rattle.vm.proofs.Added.{ok-unless_err}
 use Rattle.vm.proofs.Space.new.Goals as goal
 use Rattle.vm.proofs.Space.new.Goals.{After-unwrap, After-zero}
 

@@ -1,5 +1,5 @@
 use Rattle.vm.proofs.Common.{◌≡◌, get_or, refl, ap, ◌∙◌, arith, put, word_bytes}
-use Rattle.vm.proofs.StoreLemmas.{trap-inside, saved-is, saves-start, saves-next}
+use Rattle.vm.proofs.TrapLemmas.{trap-inside, saved-is, saves-start, saves-next}
 use Rattle.vm.proofs.Space.save_regs.Goals as goal
 
 pub store_u64-requires-clause-frame : goal.store_u64-requires-clause-frame

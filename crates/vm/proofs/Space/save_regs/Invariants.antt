@@ -1,4 +1,4 @@
-use Rattle.vm.proofs.StoreLemmas.{Saves}
+use Rattle.vm.proofs.TrapLemmas.{Saves}
 use Rattle.vm.proofs.Space.save_regs.Given as goal
 
 abbrev pub invariant-loop-register : goal.invariant-loop-register

@@ -1,5 +1,6 @@
 use Rattle.std.proofs.Common.{arith}
-use Rattle.vm.proofs.DenseLemmas.{frame_at-is, marks_at-is, marks_at-same, OwnsFrames-paged}
+use Rattle.vm.proofs.DenseLemmas.{frame_at-is, marks_at-is, marks_at-same}
+use Rattle.vm.proofs.BesideLemmas.{OwnsFrames-paged}
 use Rattle.vm.proofs.Remap.{page-inside-is, rearranged, reframed, remap-frames, remap-kept, remap-marks, remap-other}
 use Rattle.vm.proofs.Remap.{remap-page}
 use Rattle.vm.proofs.Space.set_page.Goals as goal

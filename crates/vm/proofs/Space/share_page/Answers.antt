@@ -4,7 +4,7 @@ use Rattle.vm.proofs.Added.{IsBefore, next-fits, ok-unless_err}
 use Rattle.vm.proofs.Forked.{IsClosed, closed-free, more-some, part-before, part-closed, part-holder, part-more}
 use Rattle.vm.proofs.PageLemmas.{leaf-closed}
 use Rattle.vm.proofs.Remap.{IsMadeLeaf, made-leaf, page-inside-is}
-use Rattle.vm.proofs.DenseLemmas.{OwnsFrames-paged}
+use Rattle.vm.proofs.BesideLemmas.{OwnsFrames-paged}
 use Rattle.vm.proofs.Space.share_page.Goals as goal
 use Rattle.vm.proofs.Space.share_page.Goals.{After-closed_leaf-closed, After-set_page, After-share}
 

@@ -1,8 +1,8 @@
 use Rattle.vm.proofs.Common.{ℕ, ◌-◌, ◌∙◌, ◌≢◌, Option, Some, None, ◌≡◌, arith, low_node}
-use Rattle.vm.proofs.Added.{last-zero}
+use Rattle.vm.proofs.Removed.{last-zero}
 use Rattle.vm.proofs.Tables.{low-before, table-there}
 use Rattle.pagetable.proofs.TreeLemmas.{low_is_node}
-use Rattle.vm.proofs.DenseLemmas.{OwnsFrames-paged}
+use Rattle.vm.proofs.BesideLemmas.{OwnsFrames-paged}
 use Rattle.vm.proofs.Space.unmap_page.Goals as goal
 
 some-lookup : (A : Type 0) (o : Option A) (a : A) → o ≡ Some a → o ≢ None

@@ -22,10 +22,10 @@ pub returns-in-Some : goal.returns-in-Some
 returns-in-Some g c = λ pc.
     let aligned : (c.args.address % store_size c.args.op == 0) ≡ true = search rules in
     let fits : c.args.address % 4096 + store_size c.args.op ≤ 4096 = search rules in
-    let part : c.args.address % 256 + store_size c.args.op ≤ 256 = search rules in
+    let doubleword : c.args.address % 8 + store_size c.args.op ≤ 8 = search rules in
     acts-even (store_to c.args.self.now.registers pc c.args.address (le (store_size c.args.op) c.args.value)) Store _
     (Some c.in-Some.f.0) aligned c.in-Some.ensures.answer c.locate.ensures.kept (search rules)
     (store-only c.args.ram.now c.in-Some.f (store_size c.args.op) c.args.value c.args.address
     c.frames_are_whole.ensures.memory
-    c.in-Some.ensures.inside fits part c.of.ensures (rw c.place.ensures at c.store_value.ensures))
+    c.in-Some.ensures.inside fits doubleword c.of.ensures (rw c.place.ensures at c.store_value.ensures))
     (λ answers same. (refl, refl, refl, refl, rw (same, ← c.place.ensures) c.store_value.ensures))

@@ -86,9 +86,9 @@ jump-preserved g c =
       free = c.in-Some.ensures.free;
       since = omega (arith, c.in-Some.ensures.inside.0);
       before = c.in-Some.ensures.inside.1;
-      checked = c.heed.ensures.checked _ _ c.straight-done.ensures.words c.reach-part.ensures.checked;
+      checked = c.heed.ensures.checked _ c.straight-done.ensures.words c.reach-part.ensures.checked;
       live = c.heed.ensures.live;
-      others = stayed g after c.heed.new.live.frames (c.heed.ensures.others _ _ c.straight-done.ensures.words);
+      others = stayed g after c.heed.new.live.frames (c.heed.ensures.others _ c.straight-done.ensures.words);
     }
 
 pub returns-in_default-clause-goes : goal.returns-in_default-clause-goes
@@ -102,12 +102,12 @@ returns-in_default-clause-goes g c =
 
 pub returns-in_default-clause-checked : goal.returns-in_default-clause-checked
 returns-in_default-clause-checked g c =
-    c.heed.ensures.checked _ _ c.straight-done.ensures.words c.reach-part.ensures.checked
+    c.heed.ensures.checked _ c.straight-done.ensures.words c.reach-part.ensures.checked
 
 pub returns-in_default-clause-others : goal.returns-in_default-clause-others
 returns-in_default-clause-others g c =
     stayed g (goal.at.returns-in_default-clause-others g c).After-straight-done c.heed.new.live.frames
-    (c.heed.ensures.others _ _ c.straight-done.ensures.words)
+    (c.heed.ensures.others _ c.straight-done.ensures.words)
 
 pub returns-in_default-clause-fewer : goal.returns-in_default-clause-fewer
 returns-in_default-clause-fewer g c = rw c.trap.ensures (if-none _ _ (λ none.

@@ -1,5 +1,5 @@
 use Rattle.imagemake.proofs.Common.{ap, drop, sym, take, ◌+◌, ◌∙◌, take_rest, reach}
-use Rattle.imagemake.proofs.MadeSearch.{above-next, joined-next, leads-next, reach-below}
+use Rattle.imagemake.proofs.MadePaths.{above-next, joined-next, leads-next, reach-below}
 use Rattle.imagemake.proofs.Pathing.{pieces_first, reach_last, reach_none}
 use Rattle.imagemake.proofs.made.Made.locate.Goals as goal
 

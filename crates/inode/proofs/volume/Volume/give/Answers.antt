@@ -1,5 +1,6 @@
 use Rattle.inode.proofs.Common.{◌≡◌, length, raw_at}
-use Rattle.inode.proofs.Calls.{asked, at-inside, changes-given, empty-raw, sound-after, tries}
+use Rattle.inode.proofs.Calls.{asked, at-inside, sound-after, tries}
+use Rattle.inode.proofs.Nodes.{changes-given, empty-raw}
 use Rattle.inode.proofs.volume.Volume.give.Goals as goal
 
 pub give_inode-result-requires : goal.give_inode-result-requires

@@ -1,4 +1,5 @@
-use Rattle.inode.proofs.Calls.{up-inside, whole-sound}
+use Rattle.inode.proofs.Calls.{up-inside}
+use Rattle.inode.proofs.Nodes.{whole-sound}
 use Rattle.inode.proofs.volume.Volume.is_whole.Goals as goal
 
 pub returns : goal.returns

@@ -1,4 +1,5 @@
-use Rattle.inode.proofs.Calls.{told-any, up-inside, looks, sound-same}
+use Rattle.inode.proofs.Nodes.{told-any}
+use Rattle.inode.proofs.Calls.{up-inside, looks, sound-same}
 use Rattle.inode.proofs.volume.Volume.look.Goals as goal
 
 pub look-result-requires : goal.look-result-requires

@@ -1,4 +1,5 @@
-use Rattle.inode.proofs.Calls.{asked, minor-raw, looks, sound-same}
+use Rattle.inode.proofs.Calls.{asked, looks, sound-same}
+use Rattle.inode.proofs.Nodes.{minor-raw}
 use Rattle.inode.proofs.volume.Volume.minor.Goals as goal
 
 pub minor-result-requires : goal.minor-result-requires

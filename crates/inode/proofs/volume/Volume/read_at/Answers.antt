@@ -1,4 +1,5 @@
-use Rattle.inode.proofs.Calls.{asked, read-raw, looks, sound-same}
+use Rattle.inode.proofs.Calls.{asked, looks, sound-same}
+use Rattle.inode.proofs.Nodes.{read-raw}
 use Rattle.inode.proofs.volume.Volume.read_at.Goals as goal
 
 pub read_at-result-requires : goal.read_at-result-requires

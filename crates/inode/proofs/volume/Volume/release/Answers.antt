@@ -1,5 +1,6 @@
 use Rattle.std.proofs.Common.{refl}
-use Rattle.inode.proofs.Calls.{emptied-asked, released, follows-stays, serves-lost, still-up, tries-last}
+use Rattle.inode.proofs.Nodes.{emptied-asked, released}
+use Rattle.inode.proofs.Calls.{follows-stays, serves-lost, still-up, tries-last}
 use Rattle.inode.proofs.volume.Volume.release.Goals as goal
 
 pub returns-in_err-truncate : goal.returns-in_err-truncate

@@ -1,4 +1,5 @@
-use Rattle.inode.proofs.Calls.{asked, changes-links, sound-after, tries}
+use Rattle.inode.proofs.Calls.{asked, sound-after, tries}
+use Rattle.inode.proofs.Nodes.{changes-links}
 use Rattle.inode.proofs.volume.Volume.set_links.Goals as goal
 
 pub set_links-result-requires : goal.set_links-result-requires

@@ -1,4 +1,5 @@
-use Rattle.inode.proofs.Calls.{asked, told-raw, looks, sound-same}
+use Rattle.inode.proofs.Calls.{asked, looks, sound-same}
+use Rattle.inode.proofs.Nodes.{told-raw}
 use Rattle.inode.proofs.volume.Volume.stat.Goals as goal
 
 pub stat-result-requires : goal.stat-result-requires

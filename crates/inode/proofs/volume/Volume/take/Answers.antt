@@ -1,4 +1,5 @@
-use Rattle.inode.proofs.Calls.{takes-lowest, takes-sound, up-inside, sound-after, tries}
+use Rattle.inode.proofs.Nodes.{takes-lowest}
+use Rattle.inode.proofs.Calls.{takes-sound, up-inside, sound-after, tries}
 use Rattle.inode.proofs.volume.Volume.take.Goals as goal
 
 pub take_inode-result-requires : goal.take_inode-result-requires

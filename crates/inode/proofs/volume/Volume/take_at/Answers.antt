@@ -1,5 +1,6 @@
 use Rattle.inode.proofs.Common.{◌<◌, ◌≡◌, None, refl, slot}
-use Rattle.inode.proofs.Calls.{at-inside, changes-taken, unused-free, up-inside, sound-after, tries}
+use Rattle.inode.proofs.Calls.{at-inside, up-inside, sound-after, tries}
+use Rattle.inode.proofs.Nodes.{changes-taken, unused-free}
 use Rattle.inode.proofs.volume.Volume.take_at.Goals as goal
 
 pub take_inode_at-result-requires : goal.take_inode_at-result-requires

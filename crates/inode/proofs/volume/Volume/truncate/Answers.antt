@@ -1,4 +1,5 @@
-use Rattle.inode.proofs.Calls.{asked, changes-wrote, sound-after, tries}
+use Rattle.inode.proofs.Calls.{asked, sound-after, tries}
+use Rattle.inode.proofs.Nodes.{changes-wrote}
 use Rattle.inode.proofs.volume.Volume.truncate.Goals as goal
 
 pub truncate-result-requires : goal.truncate-result-requires

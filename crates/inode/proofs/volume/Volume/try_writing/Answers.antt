@@ -1,4 +1,5 @@
-use Rattle.inode.proofs.Calls.{asked, writes-from, writes-sound, sound-after, tries}
+use Rattle.inode.proofs.Calls.{asked, writes-sound, sound-after, tries}
+use Rattle.inode.proofs.Nodes.{writes-from}
 use Rattle.inode.proofs.volume.Volume.try_writing.Goals as goal
 
 pub write_at-result-requires : goal.write_at-result-requires

@@ -1,5 +1,5 @@
 use Rattle.kernel.proofs.Common.{kernel_of}
-use Rattle.kernel.proofs.Working.{close-keeps, close-serves, gone-held}
+use Rattle.kernel.proofs.Closing.{close-keeps, close-serves, gone-held}
 use Rattle.kernel.proofs.Turning.{runner-of}
 use Rattle.kernel.proofs.kernel.Kernel.close.Goals as goal
 

@@ -1,4 +1,4 @@
-use Rattle.kernel.proofs.Memories.{create-keeps}
+use Rattle.kernel.proofs.FileChanges.{create-keeps}
 use Rattle.kernel.proofs.kernel.Kernel.create.Goals as goal
 
 pub invariant_of-self : goal.invariant_of-self

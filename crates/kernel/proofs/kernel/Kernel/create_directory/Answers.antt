@@ -1,4 +1,4 @@
-use Rattle.kernel.proofs.Memories.{folder-keeps}
+use Rattle.kernel.proofs.FileChanges.{folder-keeps}
 use Rattle.kernel.proofs.kernel.Kernel.create_directory.Goals as goal
 
 pub invariant_of-self : goal.invariant_of-self

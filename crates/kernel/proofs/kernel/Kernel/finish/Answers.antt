@@ -1,7 +1,7 @@
 use Rattle.kernel.proofs.Common.{arith, refl, length, ◌<◌, kernel_of}
 use Rattle.std.proofs.lemmas.Int.{to_z-of_z}
 use Rattle.std.specs.Int.{w32}
-use Rattle.kernel.proofs.Steps.{finish-closes, finish-held, finish-serves}
+use Rattle.kernel.proofs.Ending.{finish-closes, finish-held, finish-serves}
 use Rattle.kernel.proofs.Watching.{finish-watched, kernel-waking}
 use Rattle.kernel.proofs.kernel.Kernel.finish.Goals as goal
 

@@ -1,7 +1,8 @@
 use Rattle.kernel.proofs.Common.{ap, refl, sym, true, kernel_of, slice_set, waking, Kernel}
 use Rattle.kernel.proofs.Named.{counts-few}
 use Rattle.kernel.proofs.Forking.{fork-by, fork-home, fork-keeps, fork-there, seat-free}
-use Rattle.kernel.proofs.Turning.{hold-few, runner-of}
+use Rattle.kernel.proofs.Opening.{hold-few}
+use Rattle.kernel.proofs.Turning.{runner-of}
 use Rattle.kernel.proofs.Runs.{active-space}
 use Rattle.kernel.proofs.kernel.Kernel.fork.Goals as goal
 

@@ -1,7 +1,8 @@
 use Rattle.kernel.proofs.Common.{refl, sym, Ready}
 use Rattle.kernel.proofs.Steps.{left-kernel}
 use Rattle.kernel.proofs.Runs.{live, run-of}
-use Rattle.kernel.proofs.Watching.{kernel-waking, left-watched, typed-kernel, watched-ticks}
+use Rattle.kernel.proofs.Watching.{kernel-waking, left-watched, typed-kernel}
+use Rattle.kernel.proofs.Asleep.{watched-ticks}
 use Rattle.kernel.proofs.kernel.Kernel.interrupt.Goals as goal
 
 pub leave-requires : goal.leave-requires

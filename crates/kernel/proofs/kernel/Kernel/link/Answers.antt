@@ -1,4 +1,4 @@
-use Rattle.kernel.proofs.Memories.{link-keeps}
+use Rattle.kernel.proofs.FileChanges.{link-keeps}
 use Rattle.kernel.proofs.kernel.Kernel.link.Goals as goal
 
 pub invariant_of-self : goal.invariant_of-self

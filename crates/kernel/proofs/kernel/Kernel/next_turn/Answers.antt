@@ -1,7 +1,7 @@
 use Rattle.kernel.proofs.Common.{false, refl, rules, ap, sym, ◌∙◌, ◌≡◌, Kernel, base, rest_of, seen, kernel_of}
 use Rattle.kernel.proofs.Common.{awaited_of, with_table, ready, turn}
 use Rattle.kernel.proofs.Readies.{ready-same, turn-idle, turn-from_pick}
-use Rattle.kernel.proofs.Watching.{asleep-unready}
+use Rattle.kernel.proofs.Asleep.{asleep-unready}
 use Rattle.kernel.proofs.kernel.Kernel.next_turn.Goals as goal
 
 pub next_ready-requires-clause-awake : goal.next_ready-requires-clause-awake

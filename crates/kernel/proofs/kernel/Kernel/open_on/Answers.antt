@@ -1,5 +1,5 @@
 use Rattle.std.proofs.Common.{refl}
-use Rattle.kernel.proofs.Turning.{hold-few, open-keeps, open-there}
+use Rattle.kernel.proofs.Opening.{hold-few, open-keeps, open-there}
 use Rattle.kernel.proofs.kernel.Kernel.open_on.Goals as goal
 
 pub hold-requires : goal.hold-requires

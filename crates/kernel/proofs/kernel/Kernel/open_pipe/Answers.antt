@@ -1,5 +1,6 @@
 use Rattle.kernel.proofs.Common.{ap, is_some, free-place}
-use Rattle.kernel.proofs.Turning.{descriptor-left, pipe-keeps, pipe-made, place-left, runner-of}
+use Rattle.kernel.proofs.Opening.{descriptor-left, pipe-keeps, pipe-made, place-left}
+use Rattle.kernel.proofs.Turning.{runner-of}
 use Rattle.kernel.proofs.kernel.Kernel.open_pipe.Goals as goal
 
 pub create_pipe-requires-clause-free : goal.create_pipe-requires-clause-free

@@ -1,4 +1,4 @@
-use Rattle.kernel.proofs.Working.{advance-keeps}
+use Rattle.kernel.proofs.Closing.{advance-keeps}
 use Rattle.kernel.proofs.kernel.Kernel.set_offset.Goals as goal
 
 pub invariant_of-self : goal.invariant_of-self

@@ -1,6 +1,7 @@
 use Rattle.kernel.proofs.Common.{ap, slice_set, sym, true, ◌∙◌, option_copied, Kernel, waking, with_mode, Running, refl}
-use Rattle.kernel.proofs.Changes.{takes}
-use Rattle.kernel.proofs.Watching.{kernel-waking, watched-changed, no-zombie}
+use Rattle.kernel.proofs.Picking.{takes}
+use Rattle.kernel.proofs.Watching.{kernel-waking, watched-changed}
+use Rattle.kernel.proofs.Asleep.{no-zombie}
 use Rattle.kernel.proofs.kernel.Kernel.start.Goals as goal
 
 pub invariant_of-self : goal.invariant_of-self

@@ -1,4 +1,4 @@
-use Rattle.kernel.proofs.Memories.{truncate-keeps}
+use Rattle.kernel.proofs.FileChanges.{truncate-keeps}
 use Rattle.kernel.proofs.kernel.Kernel.truncate.Goals as goal
 
 pub invariant_of-self : goal.invariant_of-self

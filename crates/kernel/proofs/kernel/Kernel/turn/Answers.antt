@@ -1,7 +1,8 @@
 use Rattle.kernel.proofs.Common.{false, refl, rules, ap, sym, ◌∙◌, ◌≡◌, Kernel, base, rest_of, seen, kernel_of}
 use Rattle.kernel.proofs.Common.{awaited_of, with_table, ready, turn}
 use Rattle.kernel.proofs.Readies.{ready-same, turn-idle, turn-from_pick}
-use Rattle.kernel.proofs.Watching.{picked-places, watched-picked, asleep-unready}
+use Rattle.kernel.proofs.Watching.{picked-places, watched-picked}
+use Rattle.kernel.proofs.Asleep.{asleep-unready}
 use Rattle.kernel.proofs.kernel.Kernel.turn.Goals as goal
 
 pub pick-requires-clause-awake : goal.pick-requires-clause-awake

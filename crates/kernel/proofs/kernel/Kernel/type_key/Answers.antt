@@ -1,5 +1,6 @@
 use Rattle.kernel.proofs.Common.{refl}
-use Rattle.kernel.proofs.Watching.{kernel-waking, typed-kernel, watched-bytes}
+use Rattle.kernel.proofs.Watching.{kernel-waking, typed-kernel}
+use Rattle.kernel.proofs.Asleep.{watched-bytes}
 use Rattle.kernel.proofs.kernel.Kernel.type_key.Goals as goal
 
 pub invariant_of-self : goal.invariant_of-self

@@ -1,4 +1,4 @@
-use Rattle.kernel.proofs.Memories.{unlink-keeps}
+use Rattle.kernel.proofs.FileChanges.{unlink-keeps}
 use Rattle.kernel.proofs.kernel.Kernel.unlink.Goals as goal
 
 pub invariant_of-self : goal.invariant_of-self

@@ -1,5 +1,6 @@
 use Rattle.kernel.proofs.Common.{arith, kernel_of}
-use Rattle.kernel.proofs.Turning.{hold-few, runner-of}
+use Rattle.kernel.proofs.Opening.{hold-few}
+use Rattle.kernel.proofs.Turning.{runner-of}
 use Rattle.kernel.proofs.Working.{folder-there, work-fits, work-held, work-keeps, work-serves}
 use Rattle.kernel.proofs.kernel.Kernel.work_in.Goals as goal
 

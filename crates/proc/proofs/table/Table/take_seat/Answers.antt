@@ -1,5 +1,6 @@
 use Rattle.proc.proofs.Common.{ap, arith, refl, ◌≤◌, Places}
-use Rattle.proc.proofs.Waiting.{seat-pid, sound-put}
+use Rattle.proc.proofs.Seats.{seat-pid}
+use Rattle.proc.proofs.Waiting.{sound-put}
 use Rattle.proc.proofs.table.Table.take_seat.Goals as goal
 
 pub invariant_of-self : goal.invariant_of-self

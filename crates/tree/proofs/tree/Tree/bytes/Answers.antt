@@ -1,4 +1,5 @@
-use Rattle.tree.proofs.Storing.{held-some, inside-holds, read-node, reads, up-inside}
+use Rattle.tree.proofs.Storing.{held-some, inside-holds, reads, up-inside}
+use Rattle.tree.proofs.Stored.{read-node}
 use Rattle.tree.proofs.tree.Tree.bytes.Goals as goal
 
 pub read_at-requires : goal.read_at-requires

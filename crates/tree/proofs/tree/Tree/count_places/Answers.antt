@@ -1,5 +1,6 @@
 use Rattle.tree.proofs.Common.{arith, Directory}
-use Rattle.tree.proofs.Following.{end-lost, end-read, now-begin, now-read}
+use Rattle.tree.proofs.Following.{end-lost, now-begin, now-read}
+use Rattle.tree.proofs.Ending.{end-read}
 use Rattle.tree.proofs.Places.{folder-node}
 use Rattle.tree.proofs.tree.Tree.count_places.Goals as goal
 

@@ -1,7 +1,8 @@
 use Rattle.tree.proofs.Common.{Some, ap, refl, sym, ◌∙◌, made_files, Files, Made}
-use Rattle.tree.proofs.Following.{acts-done, acts-lost, acts-not, acts-refused, now-begin, now-changed, now-files}
-use Rattle.tree.proofs.Following.{now-kept, now-none, now-took, now-up}
-use Rattle.tree.proofs.Gaps.{fresh-now, leaf-empty, made-asked, made-done, made-unnumbered, overflow-none, weaker-gap}
+use Rattle.tree.proofs.Ending.{acts-done, acts-lost, acts-not, acts-refused, now-changed, now-kept, now-none, now-took}
+use Rattle.tree.proofs.Following.{now-begin, now-files, now-up}
+use Rattle.tree.proofs.NewFiles.{fresh-now, leaf-empty, made-asked, made-done, made-unnumbered, overflow-none}
+use Rattle.tree.proofs.NewFiles.{weaker-gap}
 use Rattle.tree.specs.Calls.{filled}
 use Rattle.tree.proofs.tree.Tree.create.Goals as goal
 

@@ -1,12 +1,12 @@
 use Rattle.tree.proofs.Common.{[], Some, ap, arith, refl, suc, sym, ◌∙◌, ◌≡◌, ◌≤◌, None, ◌+◌, ◌<◌, ◌≢◌, blocks_of}
 use Rattle.tree.proofs.Common.{change_node, links_of, most_links, put, slot, Node, Directory, more_links, new_directory}
 use Rattle.layout.specs.declared.Kind.TheVariants as kind
-use Rattle.tree.proofs.Links.{above-asked, first-above, first-bare, first-block, folder-is, folder-many}
-use Rattle.tree.proofs.Links.{folder-unnumbered, name-asked, next-is, weaker-folder}
-use Rattle.tree.proofs.Following.{acts-done, acts-lost, acts-not, acts-refused, at-now, now-begin, now-changed}
-use Rattle.tree.proofs.Following.{now-files, now-kept, now-node, now-none, now-read, now-took, now-up, now-wanted}
-use Rattle.tree.proofs.Following.{told-now}
-use Rattle.tree.proofs.Gaps.{overflow-none}
+use Rattle.tree.proofs.Directories.{above-asked, first-above, first-bare, first-block, folder-is, folder-many}
+use Rattle.tree.proofs.Directories.{folder-unnumbered, name-asked, next-is, weaker-folder}
+use Rattle.tree.proofs.Ending.{acts-done, acts-lost, acts-not, acts-refused, at-now, now-changed, now-kept, now-none}
+use Rattle.tree.proofs.Ending.{now-took}
+use Rattle.tree.proofs.Following.{now-begin, now-files, now-node, now-read, now-up, now-wanted, told-now}
+use Rattle.tree.proofs.NewFiles.{overflow-none}
 use Rattle.tree.specs.Calls.{filled}
 use Rattle.tree.proofs.tree.Tree.create_directory.Goals as goal
 

@@ -1,5 +1,6 @@
 use Rattle.tree.proofs.Common.{ap, ◌-◌, ◌∙◌, change_node, with_links, fewer_links}
-use Rattle.tree.proofs.Following.{end-changed, end-lost, now-begin, now-read, now-up, some-now}
+use Rattle.tree.proofs.Ending.{end-changed}
+use Rattle.tree.proofs.Following.{end-lost, now-begin, now-read, now-up, some-now}
 use Rattle.tree.proofs.Links.{relinked}
 use Rattle.tree.proofs.Storing.{some-node}
 use Rattle.tree.proofs.tree.Tree.drop_link.Goals as goal

@@ -1,6 +1,7 @@
 use Rattle.tree.proofs.Common.{ap, sym, dropped, change_node, fewer_links}
-use Rattle.tree.proofs.Following.{end-changed, end-lost, end-still, now-begin, now-changed, now-up, some-now}
-use Rattle.tree.proofs.Naming.{stays-node}
+use Rattle.tree.proofs.Ending.{end-changed, end-still, now-changed}
+use Rattle.tree.proofs.Following.{end-lost, now-begin, now-up, some-now}
+use Rattle.tree.proofs.Unlinked.{stays-node}
 use Rattle.tree.proofs.tree.Tree.drop_links.Goals as goal
 
 pub returns-in_err-drop_link : goal.returns-in_err-drop_link

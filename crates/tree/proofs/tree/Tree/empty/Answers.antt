@@ -1,4 +1,5 @@
-use Rattle.tree.proofs.Storing.{file-stores, held-again, held-some, inside-holds, tries, turns, up-inside}
+use Rattle.tree.proofs.Stored.{file-stores}
+use Rattle.tree.proofs.Storing.{held-again, held-some, inside-holds, tries, turns, up-inside}
 use Rattle.tree.proofs.tree.Tree.empty.Goals as goal
 
 pub truncate-requires : goal.truncate-requires

@@ -1,6 +1,6 @@
 use Rattle.tree.proofs.Common.{refl, subst, HasRoom}
-use Rattle.tree.proofs.Following.{acts-done, acts-lost, acts-not, acts-refused, at-now, folder-now, now-begin}
-use Rattle.tree.proofs.Following.{now-files, now-kept, now-read, now-up, was-now}
+use Rattle.tree.proofs.Ending.{acts-done, acts-lost, acts-not, acts-refused, at-now, now-kept, was-now}
+use Rattle.tree.proofs.Following.{folder-now, now-begin, now-files, now-read, now-up}
 use Rattle.tree.proofs.Gaps.{gap-folder, gap-full, gap-has, gap-lacks, gap-named, gap-room, gap-unnamed}
 use Rattle.tree.proofs.Naming.{spot-lacks}
 use Rattle.tree.specs.Calls.{TellsRoom, TellsRoomFor}

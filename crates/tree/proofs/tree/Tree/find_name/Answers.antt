@@ -1,5 +1,7 @@
-use Rattle.tree.proofs.Following.{end-last, end-lost, folder-now, folder-was, now-begin, now-read, now-up}
-use Rattle.tree.proofs.Places.{folder-fits, name-told}
+use Rattle.tree.proofs.Ending.{end-last}
+use Rattle.tree.proofs.Following.{end-lost, folder-now, folder-was, now-begin, now-read, now-up}
+use Rattle.tree.proofs.Places.{folder-fits}
+use Rattle.tree.proofs.Scanning.{name-told}
 use Rattle.tree.proofs.tree.Tree.find_name.Goals as goal
 
 pub returns-in_err-count : goal.returns-in_err-count

@@ -1,6 +1,6 @@
 use Rattle.tree.proofs.Common.{arith, zeros}
 use Rattle.tree.proofs.Writing.{erased-becomes, place-high}
-use Rattle.tree.proofs.Following.{turns-become}
+use Rattle.tree.proofs.Ending.{turns-become}
 use Rattle.tree.proofs.tree.Tree.free_place.Goals as goal
 
 pub overflow_mul-k : goal.overflow_mul-k

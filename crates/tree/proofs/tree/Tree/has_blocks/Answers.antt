@@ -1,4 +1,5 @@
-use Rattle.tree.proofs.Storing.{enough-told, inside-room, reads, up-inside}
+use Rattle.tree.proofs.Stored.{enough-told}
+use Rattle.tree.proofs.Storing.{inside-room, reads, up-inside}
 use Rattle.tree.proofs.tree.Tree.has_blocks.Goals as goal
 
 pub has_blocks-requires : goal.has_blocks-requires

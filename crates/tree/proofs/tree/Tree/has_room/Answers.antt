@@ -1,5 +1,6 @@
 use Rattle.tree.proofs.Common.{ap, arith, ◌+◌, ◌∙◌, nat_le, blocks_of, Directory}
-use Rattle.tree.proofs.Following.{end-last, end-lost, now-begin, now-read, now-up}
+use Rattle.tree.proofs.Ending.{end-last}
+use Rattle.tree.proofs.Following.{end-lost, now-begin, now-read, now-up}
 use Rattle.tree.proofs.Writing.{growth-size}
 use Rattle.tree.proofs.tree.Tree.has_room.Goals as goal
 

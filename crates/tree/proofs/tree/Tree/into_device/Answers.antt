@@ -1,5 +1,6 @@
 use Rattle.tree.proofs.Common.{OnOk, subst, IsStored, FileTree}
-use Rattle.tree.proofs.Storing.{stored-after, up-inside}
+use Rattle.tree.proofs.Stored.{stored-after}
+use Rattle.tree.proofs.Storing.{up-inside}
 use Rattle.tree.proofs.tree.Tree.into_device.Goals as goal
 
 pub returns-clause-stored : goal.returns-clause-stored

@@ -1,5 +1,7 @@
-use Rattle.tree.proofs.Following.{end-lost, end-read, folder-now, folder-was, now-begin, now-read, now-up}
-use Rattle.tree.proofs.Places.{bare-told, folder-fits}
+use Rattle.tree.proofs.Following.{end-lost, folder-now, folder-was, now-begin, now-read, now-up}
+use Rattle.tree.proofs.Ending.{end-read}
+use Rattle.tree.proofs.Scanning.{bare-told}
+use Rattle.tree.proofs.Places.{folder-fits}
 use Rattle.tree.proofs.tree.Tree.is_empty.Goals as goal
 
 pub returns-in_err-count : goal.returns-in_err-count

@@ -1,5 +1,6 @@
 use Rattle.tree.proofs.Common.{arith, sym, clear}
-use Rattle.tree.proofs.Following.{end-changed, end-lost, end-still, now-begin, now-read, now-up, some-now}
+use Rattle.tree.proofs.Ending.{end-changed, end-still}
+use Rattle.tree.proofs.Following.{end-lost, now-begin, now-read, now-up, some-now}
 use Rattle.tree.proofs.Keeping.{let-go-clear, let-go-held, let-go-linked}
 use Rattle.tree.proofs.Storing.{some-node}
 use Rattle.tree.proofs.tree.Tree.let_go.Goals as goal

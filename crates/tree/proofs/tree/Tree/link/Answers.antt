@@ -1,8 +1,9 @@
 use Rattle.tree.proofs.Common.{inl, sym, ◌∙◌, refl, ap, Some, ◌<◌, ◌≡◌, KeepsTree, HasGap, LacksGap, change_node}
 use Rattle.tree.proofs.Common.{links_of, slot, Node, more_links}
-use Rattle.tree.proofs.Following.{acts-done, acts-lost, acts-not, acts-refused, at-now, now-begin, now-changed}
-use Rattle.tree.proofs.Following.{now-files, now-kept, now-node, now-read, now-up, told-now, used-now, was-now}
-use Rattle.tree.proofs.Gaps.{none-more, overflow-none}
+use Rattle.tree.proofs.Ending.{acts-done, acts-lost, acts-not, acts-refused, at-now, now-changed, now-kept, was-now}
+use Rattle.tree.proofs.Following.{now-begin, now-files, now-node, now-read, now-up, told-now, used-now}
+use Rattle.tree.proofs.Gaps.{none-more}
+use Rattle.tree.proofs.NewFiles.{overflow-none}
 use Rattle.tree.proofs.Links.{link-asked, linked-asked, linked-into, linked-nothing, reached, seen, seen-directory}
 use Rattle.tree.proofs.Links.{seen-many, seen-weaker}
 use Rattle.tree.specs.Calls.{filled, spot_in}

@@ -1,4 +1,5 @@
-use Rattle.tree.proofs.Storing.{reads, tells-any, up-inside}
+use Rattle.tree.proofs.Storing.{reads, up-inside}
+use Rattle.tree.proofs.Stored.{tells-any}
 use Rattle.tree.proofs.tree.Tree.look.Goals as goal
 
 pub look-requires : goal.look-requires

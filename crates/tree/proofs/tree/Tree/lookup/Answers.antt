@@ -1,6 +1,7 @@
 use Rattle.tree.proofs.Common.{ap, sym, ◌∙◌, option_map, Found}
-use Rattle.tree.proofs.Following.{end-lost, end-read, folder-now, now-begin, now-read, now-up}
-use Rattle.tree.proofs.Naming.{dead-told, live-folder, live-told, lookup-told}
+use Rattle.tree.proofs.Following.{end-lost, folder-now, now-begin, now-read, now-up}
+use Rattle.tree.proofs.Ending.{end-read}
+use Rattle.tree.proofs.Unlinked.{dead-told, live-folder, live-told, lookup-told}
 use Rattle.tree.proofs.Storing.{node-of}
 use Rattle.tree.proofs.tree.Tree.lookup.Goals as goal
 

@@ -1,4 +1,5 @@
-use Rattle.tree.proofs.Storing.{held-some, inside-holds, reads, tells-minor, up-inside}
+use Rattle.tree.proofs.Storing.{held-some, inside-holds, reads, up-inside}
+use Rattle.tree.proofs.Stored.{tells-minor}
 use Rattle.tree.proofs.tree.Tree.minor.Goals as goal
 
 pub minor-requires : goal.minor-requires

@@ -1,4 +1,5 @@
-use Rattle.tree.proofs.Storing.{held-some, inside-holds, reads, tells, up-inside}
+use Rattle.tree.proofs.Storing.{held-some, inside-holds, reads, up-inside}
+use Rattle.tree.proofs.Stored.{tells}
 use Rattle.tree.proofs.tree.Tree.node.Goals as goal
 
 pub stat-requires : goal.stat-requires

@@ -1,7 +1,8 @@
 use Rattle.tree.proofs.Common.{[], sym, None, ◌∙◌, ◌≢◌, none-some, HasRoom, entered, dot_dot, slot, Directory}
-use Rattle.tree.proofs.Links.{dot-plain, dots-plain, first-fits, first-room, first-stays, own, second-fits, second-is}
-use Rattle.tree.proofs.Links.{second-room}
-use Rattle.tree.proofs.Following.{at-now, end-changed, end-lost, now-begin, now-changed, now-up}
+use Rattle.tree.proofs.Directories.{dot-plain, dots-plain, first-fits, first-room, first-stays, own, second-fits}
+use Rattle.tree.proofs.Directories.{second-is, second-room}
+use Rattle.tree.proofs.Ending.{at-now, end-changed, now-changed}
+use Rattle.tree.proofs.Following.{end-lost, now-begin, now-up}
 use Rattle.tree.specs.Calls.{HasBlocks}
 use Rattle.tree.proofs.tree.Tree.put_dots.Goals as goal
 

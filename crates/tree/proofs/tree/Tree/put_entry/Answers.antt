@@ -1,6 +1,6 @@
 use Rattle.std.proofs.Common.{arith}
 use Rattle.tree.proofs.Writing.{entry-becomes, entry-high, entry-plain}
-use Rattle.tree.proofs.Following.{turns-become}
+use Rattle.tree.proofs.Ending.{turns-become}
 use Rattle.tree.proofs.tree.Tree.put_entry.Goals as goal
 
 pub place_bytes-entry-requires : goal.place_bytes-entry-requires

@@ -1,5 +1,6 @@
 use Rattle.tree.proofs.Common.{ap, sym, ◌∙◌, ◌∷◌, lookup-used, reach}
-use Rattle.tree.proofs.Following.{end-lost, end-read, looked, now-begin, now-read, now-up, used-now}
+use Rattle.tree.proofs.Following.{end-lost, looked, now-begin, now-read, now-up, used-now}
+use Rattle.tree.proofs.Ending.{end-read}
 use Rattle.tree.proofs.Naming.{above-nothing, above-start, reach-next, start-held}
 use Rattle.tree.proofs.tree.Tree.reach.Goals as goal
 

@@ -1,6 +1,8 @@
 use Rattle.tree.proofs.Common.{◌*◌, arith, flat_map, length-spelling, place_bytes, Directory}
-use Rattle.tree.proofs.Following.{end-lost, end-read, now-begin, now-read}
-use Rattle.tree.proofs.Places.{folder-fits, folder-node, read-whole}
+use Rattle.tree.proofs.Following.{end-lost, now-begin, now-read}
+use Rattle.tree.proofs.Ending.{end-read}
+use Rattle.tree.proofs.Places.{folder-fits, folder-node}
+use Rattle.tree.proofs.Scanning.{read-whole}
 use Rattle.tree.proofs.tree.Tree.read_places.Goals as goal
 
 pub overflow_mul-k : goal.overflow_mul-k

@@ -1,4 +1,5 @@
-use Rattle.tree.proofs.Storing.{cleared-stores, held-there, inside-holds, turns, up-inside}
+use Rattle.tree.proofs.Stored.{cleared-stores}
+use Rattle.tree.proofs.Storing.{held-there, inside-holds, turns, up-inside}
 use Rattle.tree.proofs.tree.Tree.release.Goals as goal
 
 pub release-requires : goal.release-requires

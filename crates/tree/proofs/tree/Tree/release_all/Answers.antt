@@ -1,5 +1,6 @@
 use Rattle.tree.proofs.Common.{ap, arith, length, FileTree}
-use Rattle.tree.proofs.Following.{end-still, lost-served, now-served, now-up}
+use Rattle.tree.proofs.Ending.{end-still, lost-served}
+use Rattle.tree.proofs.Following.{now-served, now-up}
 use Rattle.tree.proofs.Storing.{up-inside}
 use Rattle.tree.proofs.Keeping.{from-bare, swept-all, swept-more, swept-none}
 use Rattle.tree.proofs.tree.Tree.release_all.Goals as goal

@@ -1,5 +1,6 @@
 use Rattle.tree.proofs.Common.{[], arith, refl, sym, ◌∙◌, none-some, clear}
-use Rattle.tree.proofs.Following.{end-changed, end-still, lost-served, now-begin, now-served, now-up, some-now}
+use Rattle.tree.proofs.Ending.{end-changed, end-still, lost-served}
+use Rattle.tree.proofs.Following.{now-begin, now-served, now-up, some-now}
 use Rattle.tree.proofs.Keeping.{let-go-clear, let-go-linked, let-go-free, told-free, told-node}
 use Rattle.tree.proofs.tree.Tree.release_unlinked.Goals as goal
 

@@ -1,6 +1,7 @@
 use Rattle.std.proofs.Common.{None, Some, ap, cond, sym, true, ◌∙◌}
-use Rattle.tree.proofs.Following.{end-lost, end-read, folder-now, now-begin, now-read, now-up}
-use Rattle.tree.proofs.Naming.{removal-directory, removal-folder, removal-other}
+use Rattle.tree.proofs.Following.{end-lost, folder-now, now-begin, now-read, now-up}
+use Rattle.tree.proofs.Ending.{end-read}
+use Rattle.tree.proofs.Unlinked.{removal-directory, removal-folder, removal-other}
 use Rattle.tree.proofs.tree.Tree.removal.Goals as goal
 
 pub returns-in_err-node : goal.returns-in_err-node

@@ -1,9 +1,9 @@
 use Rattle.tree.proofs.Common.{◌≡◌, Some, ap, refl, sym, ◌∙◌, none-some, dropped, removal, HasPlace, erase}
-use Rattle.tree.proofs.Following.{acts-done, acts-lost, acts-not, at-now, now-begin, now-changed, now-files, now-node}
-use Rattle.tree.proofs.Following.{now-read, now-up, some-now, told-now}
-use Rattle.tree.proofs.Naming.{found-node, found-parts, found-place, lookup-found, lookup-missing, naming-folder}
-use Rattle.tree.proofs.Naming.{stays-busy, stays-dropped, stays-erased, unlinked-done, unlinked-dot, unlinked-full}
-use Rattle.tree.proofs.Naming.{unlinked-missing}
+use Rattle.tree.proofs.Ending.{acts-done, acts-lost, acts-not, at-now, now-changed}
+use Rattle.tree.proofs.Following.{now-begin, now-files, now-node, now-read, now-up, some-now, told-now}
+use Rattle.tree.proofs.Unlinked.{found-node, found-parts, found-place, lookup-found, lookup-missing, naming-folder}
+use Rattle.tree.proofs.Unlinked.{stays-busy, stays-dropped, stays-erased, unlinked-done, unlinked-dot, unlinked-full}
+use Rattle.tree.proofs.Unlinked.{unlinked-missing}
 use Rattle.tree.proofs.tree.Tree.remove_name.Goals as goal
 
 pub returns-then-is_dot_name : goal.returns-then-is_dot_name

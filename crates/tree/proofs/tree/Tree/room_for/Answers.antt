@@ -1,6 +1,8 @@
 use Rattle.tree.proofs.Common.{ap, is_some, subst, sym, ◌∙◌, flat_map, place_bytes, Name, NameOrFree, Scans}
-use Rattle.tree.proofs.Following.{end-lost, end-read, folder-now, folder-was, now-begin, now-read, now-up}
-use Rattle.tree.proofs.Places.{folder-fits, free-told, later-told, none-told, unnamed-told}
+use Rattle.tree.proofs.Following.{end-lost, folder-now, folder-was, now-begin, now-read, now-up}
+use Rattle.tree.proofs.Ending.{end-read}
+use Rattle.tree.proofs.Places.{folder-fits}
+use Rattle.tree.proofs.Scanning.{free-told, later-told, none-told, unnamed-told}
 use Rattle.tree.specs.Calls.{TellsRoomFor}
 use Rattle.tree.proofs.tree.Tree.room_for.Goals as goal
 

@@ -1,6 +1,8 @@
 use Rattle.tree.proofs.Common.{None, subst, arith, le_refl, flat_map, length-spelling, IsFirst, Scans, place_bytes}
-use Rattle.tree.proofs.Following.{end-lost, end-read, folder-now, folder-was, now-begin, now-read, now-up}
-use Rattle.tree.proofs.Places.{all-passed, first-there, folder-fits, next-is, next-read, next-within}
+use Rattle.tree.proofs.Following.{end-lost, folder-now, folder-was, now-begin, now-read, now-up}
+use Rattle.tree.proofs.Ending.{end-read}
+use Rattle.tree.proofs.Scanning.{all-passed, first-there, next-is, next-read, next-within}
+use Rattle.tree.proofs.Places.{folder-fits}
 use Rattle.tree.proofs.tree.Tree.scan.Goals as goal
 
 pub block-init : goal.block-init

@@ -1,4 +1,5 @@
-use Rattle.tree.proofs.Storing.{held-there, inside-holds, linked-stores, turns, up-inside}
+use Rattle.tree.proofs.Storing.{held-there, inside-holds, turns, up-inside}
+use Rattle.tree.proofs.Stored.{linked-stores}
 use Rattle.tree.proofs.tree.Tree.set_links.Goals as goal
 
 pub set_links-requires : goal.set_links-requires

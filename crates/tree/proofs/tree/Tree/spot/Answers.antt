@@ -1,6 +1,6 @@
 use Rattle.tree.proofs.Common.{ap, refl, sym, ◌∙◌, option_map}
-use Rattle.tree.proofs.Following.{acts-done, acts-lost, acts-not, now-begin, now-files, now-node, now-read, now-up}
-use Rattle.tree.proofs.Following.{told-now}
+use Rattle.tree.proofs.Ending.{acts-done, acts-lost, acts-not}
+use Rattle.tree.proofs.Following.{now-begin, now-files, now-node, now-read, now-up, told-now}
 use Rattle.tree.proofs.Naming.{above-node, spot-bare, spot-live, spot-none, spot-other}
 use Rattle.tree.proofs.tree.Tree.spot.Goals as goal
 

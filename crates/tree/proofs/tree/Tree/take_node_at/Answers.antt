@@ -1,5 +1,6 @@
 use Rattle.tree.proofs.Common.{arith}
-use Rattle.tree.proofs.Storing.{fresh-stores, held-none, inside-holds, length-held, turns, up-inside}
+use Rattle.tree.proofs.Stored.{fresh-stores}
+use Rattle.tree.proofs.Storing.{held-none, inside-holds, length-held, turns, up-inside}
 use Rattle.tree.proofs.tree.Tree.take_node_at.Goals as goal
 
 pub take_at-requires : goal.take_at-requires

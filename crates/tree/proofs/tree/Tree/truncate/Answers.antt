@@ -1,6 +1,7 @@
 use Rattle.tree.proofs.Common.{[], sym, put, File, emptied}
 use Rattle.tree.proofs.Links.{emptied-file, emptied-other}
-use Rattle.tree.proofs.Following.{end-changed, end-lost, end-still, file-now, now-begin, now-read, now-up, tells-more}
+use Rattle.tree.proofs.Ending.{end-changed, end-still, file-now, tells-more}
+use Rattle.tree.proofs.Following.{end-lost, now-begin, now-read, now-up}
 use Rattle.tree.proofs.Storing.{change-is, some-node}
 use Rattle.tree.proofs.tree.Tree.truncate.Goals as goal
 

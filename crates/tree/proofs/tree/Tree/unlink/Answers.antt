@@ -1,7 +1,7 @@
 use Rattle.tree.proofs.Common.{Some, ap, sym, ◌∙◌, ◌≡◌, refl, None, let_go, IsNaming, LacksName, Unlinks, Spot}
 use Rattle.tree.proofs.Common.{unlinked}
-use Rattle.tree.proofs.Following.{acts-done, acts-lost, acts-refused, at-now, beside-now, now-begin, now-files}
-use Rattle.tree.proofs.Following.{now-kept, now-passed, now-turned, now-up, was-now}
+use Rattle.tree.proofs.Ending.{acts-done, acts-lost, acts-refused, at-now, now-kept, now-passed, was-now}
+use Rattle.tree.proofs.Following.{beside-now, now-begin, now-files, now-turned, now-up}
 use Rattle.tree.proofs.Gaps.{gone-name, refused-at, spot-naming, without-spot}
 use Rattle.tree.proofs.tree.Tree.unlink.Goals as goal
 

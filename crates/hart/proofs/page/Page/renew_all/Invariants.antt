@@ -1,5 +1,5 @@
 use Rattle.hart.proofs.Common.{AreNow, slice_index, ℕ, ◌<◌, ◌≡◌, ◌≤◌, ◌⊎◌}
-use Rattle.hart.proofs.page.Page.refresh.Given as goal
+use Rattle.hart.proofs.page.Page.renew_all.Given as goal
 
 -- the words so far are those of the frame, and the others as they were
 abbrev pub invariant-loop-k : goal.invariant-loop-k
