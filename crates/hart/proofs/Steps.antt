@@ -10,7 +10,8 @@ use Rattle.hart.proofs.Common.{instruction_of, InstructionPageFault, IsAnswer, I
 use Rattle.hart.proofs.Common.{Memory, Nothing, number, Ok, Page, place_in, plus, put_at, put_in, seen, Shows, Sight}
 use Rattle.hart.proofs.Common.{slice_index, Store, store_size, stored, StoreMisaligned, Stores, subst, sym, Trap, trap}
 use Rattle.hart.proofs.Common.{walk_page, word_by, ◌%◌, ◌&&◌, ◌-◌, ◌==◌}
-use Rattle.hart.proofs.ChangeLemmas.{stored-entry, cycle-stores, Alike, load-same, store-same}
+use Rattle.hart.proofs.ChangeLemmas.{stored-entry, cycle-stores}
+use Rattle.hart.proofs.Again.{Alike, load-same, store-same}
 use Rattle.unixmodel.specs.declared.instr.Instr.TheVariants as instr
 
 -- ---- a mapping and the memory that it shows

@@ -5,16 +5,15 @@ use Rattle.hart.proofs.Common.{InstructionPageFault, IsAnswer, IsKept, IsMemory,
 use Rattle.hart.proofs.Common.{memory_of, Next, None, Ok, Option, option_map, page_in, pc_after, place_in, Point}
 use Rattle.hart.proofs.Common.{point_at, Reaches, refl, RunsTo, seen, Shows, Sight, Some, Stores, subst, suc, sym, Trap}
 use Rattle.hart.proofs.Common.{trap, trap_of, walk_page-inside, word_by, word_in, ℕ, ◌/◌, ◌∙◌, ◌≡◌, [], arith, Behind}
-use Rattle.hart.proofs.Common.{GoesOn, IsOp, number, Op, op_by, pc_at, plus, point_of, slice_index_or, slice_range}
-use Rattle.hart.proofs.Common.{StaysWhole, word_of, ◌%◌, ◌*◌, ◌+◌, ◌-◌, ◌<◌, ◌^◌, ◌≤◌, ◌==◌, false, cases_lt, get_or}
-use Rattle.hart.proofs.Common.{length, ne_eqb, take, IsBehind, IsClear, IsFree, IsPast, is_stop, At, IfNone, IfSome}
-use Rattle.hart.proofs.Common.{goes_to, MovesOn, Stop, Stored, Within}
-use Rattle.std.proofs.lemmas.List.Folds.{list_any_more}
+use Rattle.hart.proofs.Common.{GoesOn, IsOp, number, Op, op_by, pc_at, plus, slice_index_or, slice_range, StaysWhole}
+use Rattle.hart.proofs.Common.{word_of, ◌%◌, ◌*◌, ◌+◌, ◌-◌, ◌<◌, ◌^◌, ◌≤◌, IsClear, IsPast, At, IfNone, IfSome, goes_to}
+use Rattle.hart.proofs.Common.{MovesOn, Stop, Stored, Within}
 use Rattle.sv39.proofs.Placed.{coherent-kept, shows-coherent}
 use Rattle.hart.proofs.ChangeLemmas.{cycle-only, cycle-stores}
 use Rattle.hart.proofs.Steps.{page_for-memory_of, place-frame, seen-alike, shown-answer, stored-changed, word_by-alike}
 use Rattle.ram.specs.declared.FrameNo.{FrameNo}
 use Rattle.hart.proofs.Bytes.{number_of_word}
+use Rattle.hart.proofs.Stopping.{clear-past, less-clear}
 
 -- ---- what holds of a program that was run so far
 
@@ -24,7 +23,7 @@ module _ {held : Held} {root : ℕ} {mapping : List Mapped} {stops : List ℕ} {
   shows-now = shows-coherent _ _ _ _ (g.steady.walks n now.ram g.reaches) g.coherent
 
   -- something was looked up
-  goes-kept : (held' : Held) → IsKept held held' now.ram root → Goes held' root mapping stops n first now
+  pub goes-kept : (held' : Held) → IsKept held held' now.ram root → Goes held' root mapping stops n first now
   goes-kept held' kept = record {
     steady = g.steady;
     coherent = coherent-kept _ _ _ _ _ (g.steady.walks n now.ram g.reaches) g.coherent kept;
@@ -34,7 +33,7 @@ module _ {held : Held} {root : ℕ} {mapping : List Mapped} {stops : List ℕ} {
   }
 
   -- a translator's result for a fetch is the mapping's
-  frame-found : (o : Option ℕ) → IsAnswer held now.ram root now.pc Fetch (option_map (place_in now.pc) o)
+  pub frame-found : (o : Option ℕ) → IsAnswer held now.ram root now.pc Fetch (option_map (place_in now.pc) o)
       → frame_for mapping (now.pc / 4096) Fetch ≡ o
   frame-found o is = sym (place-frame _ o (frame_for mapping (now.pc / 4096) Fetch)
       (shows-now now.pc Fetch (option_map (place_in now.pc) o) is))
@@ -64,7 +63,7 @@ at-none : (ram : Ram) (mem : Memory) (regs : List ℕ) (pc : ℕ) (o : Option Ma
 at-none ram mem regs pc None h = refl
 at-none ram mem regs pc (Some e) h = absurd (cc)
 
-cycle-unfound : (ram : Ram) (mapping : List Mapped) (regs : List ℕ) (pc : ℕ)
+pub cycle-unfound : (ram : Ram) (mapping : List Mapped) (regs : List ℕ) (pc : ℕ)
     → frame_for mapping (pc / 4096) Fetch ≡ None → cycle regs pc (memory_of ram mapping) ≡ trap InstructionPageFault pc
 unfolding cycle
 cycle-unfound ram mapping regs pc at = rw (page_for-memory_of ram mapping Fetch pc) (at-none _ _ _ pc _ at)
@@ -241,59 +240,6 @@ pub if-none : (P : Type 0) (o : Option Trap) → (o ≡ None → P) → IfNone o
 if-none P None h = h refl
 if-none P (Some t) h = tt
 
--- ---- stops
-
--- a shorter range is clear, too
-pub less-clear : (stops : List ℕ) (base : ℕ) {from to end : ℕ} → to ≤ end → IsClear stops base from end
-    → IsClear stops base from to
-less-clear stops base within clear j more less = clear j more (omega (arith, within, less))
-
--- words after one that are free of stops are clear up to the end of these
-pub free-clear : (stops : List ℕ) (base : ℕ) {from to k end : ℕ} → from ≤ k + 1 → end ≤ to → IsFree stops base from to
-    → IsClear stops base k end
-free-clear stops base first last free j more less = free j (omega (arith, first, more)) (omega (arith, last, less))
-
--- a word at no stop and the clear ones after it are free of stops
-pub clear-free : (stops : List ℕ) (base : ℕ) {k end : ℕ} → is_stop stops (pc_at base k) ≡ false
-    → IsClear stops base k end → IsFree stops base k end
-clear-free stops base {k} {end} start clear j since less = elim (cases_lt k j) [
-  | inl more ↦ clear j more less
-  | inr same ↦ let at : j ≡ k = omega (arith, since, same) in rw at start
-]
-
--- one more address, which is at no index up to there
-pub clear-more : (stops : List ℕ) (i base k end to : ℕ) → i < length stops → IsClear (take i stops) base k end
-    → to ≤ end → ((j : ℕ) → k < j → j < to → get_or stops i 0 ≡ pc_at base j → ⊥)
-    → IsClear (take (i + 1) stops) base k to
-clear-more stops i base k end to within clear before other j more less =
-    let first = clear j more (omega (arith, less, before)) in
-    let last : (get_or stops i 0 == pc_at base j) ≡ false =
-    ne_eqb (get_or stops i 0) (pc_at base j) (other j more less) in
-    list_any_more (λ s. s == pc_at base j) stops i 0 within ∙ rw (first, last) refl
-
--- after the first index none is at a stop
-clear-past : (stops : List ℕ) (base : ℕ) {from k : ℕ} (n : ℕ) → from ≤ k → IsClear stops base from (k + 1)
-    → IsPast stops n (pc_at base from) → IsPast stops (n + (k - from)) (pc_at base k)
-clear-past stops base {from} {k} n since clear past more = elim (cases_lt from k) [
-  | inl behind ↦ clear k behind (omega arith)
-  | inr first ↦ let same : from ≡ k =
-      omega (arith, since, first)
-      in subst (λ j. is_stop stops (pc_at base j) ≡ false) same (past (omega (arith, more, same)))
-]
-
-pub behind-past : (stops : List ℕ) {done old new : ℕ} → IsBehind stops done old new → (n : ℕ) → IsPast stops n old
-    → IsPast stops (n + done) new
-behind-past stops (inl go) n past more = go.1
-behind-past stops (inr none) n past more = let e =
-    none.0 in subst (λ pc. is_stop stops pc ≡ false) (sym none.1) (past (omega (arith, more, e)))
-
-pub behind-then : (stops : List ℕ) {x y old mid new : ℕ} → IsBehind stops x old mid → IsBehind stops y mid new
-    → IsBehind stops (x + y) old new
-behind-then stops a (inl go) = inl (let some = go.0 in omega (arith, some), go.1)
-behind-then stops (inl go) (inr none) = inl (let some = go.0 in omega (arith, some), rw none.1 go.1)
-behind-then stops (inr first) (inr none) =
-    inr (let a = first.0 in let b = none.0 in omega (arith, a, b), none.1 ∙ first.1)
-
 -- ---- the operations of a page, in their order
 
 -- the words from one index to another are done
@@ -392,133 +338,3 @@ straight-more {base} {from} {k} is even small within since straight acts = recor
       let count : k + 1 - from ≡ k - from + 1 = omega (arith, since) in
       rw (count, ← pc-next base k) (straight-on even small within straight acts mapping stops at is refl since clear);
 }
-
--- ---- one run after another
-
-goes-then : {a b d : Held} {root : ℕ} {mapping : List Mapped} {stops : List ℕ} {old mid new : Point} (x y : ℕ)
-    (stopped : Option Trap) → IsBehind stops x old.pc mid.pc
-    → GoesOn a b root mapping stops old mid x None → GoesOn b d root mapping stops mid new y stopped
-    → GoesOn a d root mapping stops old new (x + y) stopped
-goes-then {stops = stops} x y stopped behind f h n first past g =
-    let both = h (n + x) first (behind-past stops behind n past) (f n first past g).0 in
-    let sum : n + x + y ≡ n + (x + y) = omega arith in
-    (rw (← sum) both.0, both.1)
-
--- nothing is done yet
-pub goes-none : {held : Held} {root : ℕ} {mapping : List Mapped} {stops : List ℕ} {point : Point} {x : ℕ} → x ≡ 0
-    → GoesOn held held root mapping stops point point x None
-goes-none {x} none n first past g = (let same : n + x ≡ n = omega (arith, none) in rw same g, tt)
-
--- some of `count` are left
-pub record GoesLeft (held held' : Held) (stops : List ℕ) (old new : Hart) (pc : ℕ) (ram ram' : Ram) (count left : ℕ)
-    (f : ℕ) : Type 0 where
-  pub whole : StaysWhole held' old new ram ram'
-  pub bounded : left ≤ count
-  pub behind : IsBehind stops (count - left) old.pc pc
-  pub goes : (mapping : List Mapped) → frame_for mapping (old.pc / 4096) Fetch ≡ Some f
-      → GoesOn held held' old.root.0 mapping stops (point_of old ram) (point_at new pc ram') (count - left) None
-
-pub whole-then : {b d : Held} {first mid new : Hart} {ram ram' ram'' : Ram} → StaysWhole b first mid ram ram'
-    → StaysWhole d mid new ram' ram'' → StaysWhole d first new ram ram''
-whole-then one two = record { inside = two.inside; count = two.count ∙ one.count; root = two.root ∙ one.root }
-
--- operations of a page after earlier ones
-pub page-then : {a b d : Held} {stops : List ℕ} {first mid : Hart} (new : Hart) (done rest : ℕ) {pc : ℕ} {base : ℕ}
-    (k to : ℕ)
-    {ram ram' : Ram} (ram'' : Ram) {count left f : ℕ} (stopped : Option Trap)
-    → GoesLeft a b stops first mid pc ram ram' count left f
-    → base ≡ first.pc / 4096 * 4096 → pc_at base k ≡ pc → rest + done ≡ left
-    → ((mapping : List Mapped) → frame_for mapping (base / 4096) Fetch ≡ Some f
-    → GoesOn b d mid.root.0 mapping stops (point_at mid (pc_at base k) ram') (point_at new to ram'') done stopped)
-    → (mapping : List Mapped) → frame_for mapping (first.pc / 4096) Fetch ≡ Some f
-    → GoesOn a d first.root.0 mapping stops (point_of first ram) (point_at new to ram'') (count - rest) stopped
-page-then {a} {b} {d} {first} {mid} new done rest {pc} {base} k to {ram} {ram'} ram'' {count} {left} stopped before is
-    start parts straight mapping at =
-    let root : mid.root.0 ≡ first.root.0 = ap (λ (r : FrameNo). r.0) before.whole.root in
-    let page : base / 4096 ≡ first.pc / 4096 = omega (arith, is) in
-    let step = rw (root, start) at (straight mapping (rw page at)) in
-    let sum : count - rest ≡ (count - left) + done = omega (arith, before.bounded, parts) in
-    rw sum (goes-then _ _ _ before.behind (before.goes mapping at) step)
-
--- nothing is done yet at an index
-pub left-begins : {held : Held} {stops : List ℕ} {hart : Hart} {ram : Ram} (base k : ℕ) {count left f : ℕ}
-    → HoldsInside held ram → pc_at base k ≡ hart.pc → left ≡ count
-    → GoesLeft held held stops hart hart (pc_at base k) ram ram count left f
-left-begins {held} {stops} {hart} {ram} base k {count} {left} {f} inside start all =
-    subst (λ pc. GoesLeft held held stops hart hart pc ram ram count left f) (sym start) (record {
-      whole = record { inside = inside; count = refl; root = refl };
-      bounded = omega (arith, all);
-      behind = inr (omega (arith, all), refl);
-      goes = λ mapping at. goes-none (omega (arith, all));
-    })
-
--- a jump leads to another index, at no stop
-pub left-on : {a b d : Held} {stops : List ℕ} {first mid : Hart} (new : Hart) {base : ℕ} (k index to : ℕ)
-    {ram ram' : Ram} (ram'' : Ram) {count left f done rest : ℕ}
-    → GoesLeft a b stops first mid (pc_at base k) ram ram' count left f → base ≡ first.pc / 4096 * 4096
-    → 0 < done → rest + done ≡ left → StaysWhole d mid new ram' ram'' → is_stop stops to ≡ false → pc_at base index ≡ to
-    → ((mapping : List Mapped) → frame_for mapping (base / 4096) Fetch ≡ Some f
-    → GoesOn b d mid.root.0 mapping stops (point_at mid (pc_at base k) ram') (point_at new to ram'') done None)
-    → GoesLeft a d stops first new (pc_at base index) ram ram'' count rest f
-left-on {a} {b} {d} {stops} {first} {mid} new {base} k index to {ram} {ram'} ram'' {count} {left} {f} {done} {rest}
-    before is some parts whole clear there straight =
-    let bounded = before.bounded in
-    subst (λ pc. GoesLeft a d stops first new pc ram ram'' count rest f) (sym there) (record {
-      whole = whole-then before.whole whole;
-      bounded = omega (arith, parts, bounded);
-      behind = inl (omega (arith, some, parts, bounded), clear);
-      goes = page-then new done rest k to ram'' None before is refl parts straight;
-    })
-
--- an operation that isn't done, after earlier ones, is at no stop
-pub stop-behind : {held held' : Held} {stops : List ℕ} {old new : Hart} {pc : ℕ} {ram ram' : Ram} {count left f : ℕ}
-    (base k end done rest : ℕ) → GoesLeft held held' stops old new pc ram ram' count left f
-    → pc_at base k ≡ pc → done < end - k → rest + done ≡ left → IsClear stops base k end
-    → IsBehind stops (count - rest) old.pc (pc_at base (k + done))
-stop-behind {stops} {old} {pc} {count} {left} base k end done rest before start fewer parts clear =
-    elim (cases_lt 0 done) [
-      | inl some ↦ let bounded =
-          before.bounded in inl (
-            omega (arith, some, parts, bounded),
-            clear (k + done) (omega (arith, some)) (omega (arith, fewer)),
-          )
-      | inr least ↦
-          let none : done ≡ 0 = omega (arith, least) in
-          let same : k ≡ k + done = omega (arith, none) in
-          let there : pc_at base (k + done) ≡ pc = subst (λ j. pc_at base j ≡ pc) same start in
-          let count : count - left ≡ count - rest = omega (arith, none, parts) in
-          rw (there, ← count) before.behind
-    ]
-
--- a program is at a page, whose look-up has this result
-module _ (a : Held) {b : Held} (d : Held) {stops : List ℕ} {first mid : Hart} {ram ram' : Ram} (done : ℕ)
-    (mapping : List Mapped) (whole : StaysWhole b first mid ram ram')
-    (before : GoesOn a b first.root.0 mapping stops (point_of first ram) (point_of mid ram') done None)
-    (kept : IsKept b d ram' mid.root.0) {o : Option ℕ}
-    (found : IsAnswer b ram' mid.root.0 mid.pc Fetch (option_map (place_in mid.pc) o)) where
-  come : {n : ℕ} {start : Point} → IsPast stops n first.pc
-      → Goes a first.root.0 mapping stops n start (point_of first ram)
-      → Goes d mid.root.0 mapping stops (n + done) start (point_of mid ram')
-      × (frame_for mapping (mid.pc / 4096) Fetch ≡ o)
-  come {n} {start} past g = let now : Goes b mid.root.0 mapping stops (n + done) start (point_of mid ram') =
-      rw (ap (λ (r : FrameNo). r.0) whole.root) (before n start past g).0
-      in (goes-kept now d kept, frame-found now o found)
-
-  -- where no page is found there is a page fault
-  pub run-faults : o ≡ None
-      → GoesOn a d first.root.0 mapping stops (point_of first ram) (point_of mid ram') done
-      (Some (record { cause = InstructionPageFault; address = mid.pc }))
-  run-faults none n start past g = let now =
-      come past g in rw (← ap (λ (r : FrameNo). r.0) whole.root) (now.0, cycle-unfound _ _ _ _ (now.1 ∙ none))
-
-  -- a page after earlier ones
-  pub run-then : {e : Held} (new : Hart) (ram'' : Ram) (count left rest f : ℕ) (stopped : Option Trap)
-      → IsBehind stops done first.pc mid.pc → o ≡ Some f → left ≤ count → rest ≤ left → done ≡ count - left
-      → ((mapping : List Mapped) → frame_for mapping (mid.pc / 4096) Fetch ≡ Some f
-      → GoesOn d e mid.root.0 mapping stops (point_of mid ram') (point_of new ram'') (left - rest) stopped)
-      → GoesOn a e first.root.0 mapping stops (point_of first ram) (point_of new ram'') (count - rest) stopped
-  run-then new ram'' count left rest f stopped behind some bounded fewer is page n start past g =
-      let now = come past g in
-      let sum : n + (count - rest) ≡ n + done + (left - rest) = omega (arith, bounded, fewer, is) in
-      rw (← ap (λ (r : FrameNo). r.0) whole.root, sum)
-      (page mapping (now.1 ∙ some) (n + done) start (behind-past stops behind n past) now.0)

@@ -20,7 +20,8 @@ unfoldable pub use Rattle.frames.specs.Free.{extra_of, free_of}
 pub use Rattle.frames.specs.Holders.{count_of, one_if, Trades}
 unfoldable pub use Rattle.frames.specs.Holders.{holders_of}
 pub use Rattle.frames.specs.declared.Frames.{Frames}
-pub use Rattle.hart.proofs.ChangeLemmas.{Alike, cycle-again, cycle-retries, memory_of-cycle, Narrows}
+pub use Rattle.hart.proofs.Again.{Alike, cycle-again, cycle-retries, Narrows}
+pub use Rattle.hart.proofs.ChangeLemmas.{memory_of-cycle}
 pub use Rattle.hart.specs.Changes.{changed, IsSound, put_in, WritesOnly}
 pub use Rattle.hart.specs.declared.state.Hart.{Hart}
 pub use Rattle.pipe.specs.Pipe.{bytes_of, Pipe, Stays}

@@ -1,5 +1,5 @@
 use Rattle.hart.proofs.Common.{arith}
-use Rattle.hart.proofs.Straight.{free-clear}
+use Rattle.hart.proofs.Stopping.{free-clear}
 use Rattle.hart.proofs.run.end_of.Goals as goal
 
 pub returns-clause-clear : goal.returns-clause-clear

@@ -1,7 +1,8 @@
 use Rattle.hart.proofs.Common.{arith, GoesOn, goes_to, Hart, IsClear, List, Mapped, Fetch, frame_for, None, pc_at}
 use Rattle.hart.proofs.Common.{point_at, refl, Some, StayLive, trap_of, ℕ, ◌*◌, ◌+◌, ◌-◌, ◌/◌, ◌<◌, ◌≡◌, ◌≤◌}
-use Rattle.hart.proofs.Straight.{if-none, if-some, left-begins, left-on, less-clear, moves-some, page-then, pc-of}
-use Rattle.hart.proofs.Straight.{stop-behind, stops-early, stops-there}
+use Rattle.hart.proofs.Straight.{if-none, if-some, moves-some, pc-of, stops-early, stops-there}
+use Rattle.hart.proofs.Running.{left-begins, left-on, page-then, stop-behind}
+use Rattle.hart.proofs.Stopping.{less-clear}
 use Rattle.hart.proofs.Pages.{stay-then}
 use Rattle.hart.proofs.state.Hart.run_page.Given as given
 use Rattle.hart.proofs.state.Hart.run_page.Goals as goal

@@ -1,6 +1,6 @@
 use Rattle.std.proofs.Common.{◌+◌, ◌<◌, ◌≤◌}
 use Rattle.hart.proofs.Common.{AreChecked, AreFree, IsLive, pc_at, StayLive}
-use Rattle.hart.proofs.Straight.{GoesLeft}
+use Rattle.hart.proofs.Running.{GoesLeft}
 use Rattle.hart.proofs.state.Hart.run_page.Given as goal
 
 abbrev pub invariant-jump : goal.invariant-jump

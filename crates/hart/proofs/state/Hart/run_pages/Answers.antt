@@ -2,7 +2,8 @@ use Rattle.hart.proofs.Common.{arith, GoesOn, inl, inr, List, Mapped, None, Opti
 use Rattle.hart.proofs.Common.{sym, Trap, ◌+◌, ◌-◌, ◌≡◌}
 use Rattle.hart.proofs.Pages.{no_pages, none-known, still-known}
 use Rattle.hart.proofs.Steps.{inside-kept}
-use Rattle.hart.proofs.Straight.{behind-then, goes-none, run-faults, run-then, whole-then}
+use Rattle.hart.proofs.Stopping.{behind-then}
+use Rattle.hart.proofs.Running.{goes-none, run-faults, run-then, whole-then}
 use Rattle.hart.proofs.state.Hart.run_pages.Given as given
 use Rattle.hart.proofs.state.Hart.run_pages.Goals as goal
 use Rattle.hart.proofs.state.Hart.run_pages.Goals.{After-visit-rest}

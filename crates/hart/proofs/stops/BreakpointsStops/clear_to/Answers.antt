@@ -1,5 +1,5 @@
 use Rattle.hart.proofs.Common.{arith, length, ◌<◌}
-use Rattle.hart.proofs.Straight.{clear-more}
+use Rattle.hart.proofs.Stopping.{clear-more}
 use Rattle.hart.proofs.stops.BreakpointsStops.clear_to.Goals as goal
 
 pub loop-address-preserved : goal.loop-address-preserved
