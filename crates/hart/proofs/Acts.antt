@@ -45,7 +45,8 @@ reads-only acts = record { acts = acts; only = λ f k other. refl }
 
 -- a store to another frame goes on as other operations do
 module _ {held held' : Held} {meaning : Sight → Effect} {pc : ℕ} {old new : Hart} {ram ram' : Ram} where
-  acts-if : {g : FrameNo} {doubleword : ℕ} (b : Bool) → Acts held held' meaning (Stored g doubleword) pc old new ram ram'
+  acts-if : {g : FrameNo} {doubleword : ℕ} (b : Bool)
+      → Acts held held' meaning (Stored g doubleword) pc old new ram ram'
       → Acts held held' meaning (if b then Stored g doubleword else Behind) pc old new ram ram'
   acts-if true acts = acts
   acts-if false acts = record {
@@ -66,7 +67,8 @@ module _ {held held' : Held} {meaning : Sight → Effect} {pc : ℕ} {old new : 
 
 -- a store that isn't reported is to no frame whose page is known
 keeps-if : (frames : List ℕ) (f : ℕ) (g : FrameNo) (doubleword : ℕ) (ram ram' : Ram) (b : Bool)
-    → (slice_index frames (g.0 % 32) == g.0) ≡ b → IsLive frames f → KeepsWords (seen_in (Stored g doubleword) f) f ram ram'
+    → (slice_index frames (g.0 % 32) == g.0) ≡ b → IsLive frames f
+    → KeepsWords (seen_in (Stored g doubleword) f) f ram ram'
     → KeepsWords (seen_in (if b then Stored g doubleword else Behind) f) f ram ram'
 keeps-if frames f g doubleword ram ram' true is live keeps = keeps
 keeps-if frames f g doubleword ram ram' false is live keeps =

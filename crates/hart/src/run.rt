@@ -125,8 +125,8 @@ fn within(k: usize, known: Known) -> Option<(usize, Known)>
     }
 }
 
-// The index up to which operations of the part of word `k` are done at once: the end of the part, or an earlier one where
-// no more operations are left or a stretch without a stop ends.
+// The index up to which operations of the part of word `k` are done at once: the end of the part, or an earlier one
+// where no more operations are left or a stretch without a stop ends.
 #[inline(always)]
 fn end_of<S: Stops, const LEAST: usize>(
     stops: &S,
