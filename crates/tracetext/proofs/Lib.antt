@@ -1,3 +1,4 @@
 mod CommitLemmas
+mod DigitLemmas
 mod NameLemmas
 mod TextLemmas

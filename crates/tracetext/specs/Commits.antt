@@ -8,6 +8,15 @@ use Rattle.unixmodel.specs.Spell.{part}
 
 -- ---- numbers
 
+-- the digit of a number below 16
+abbrev pub digit_of : ℕ → ℕ
+digit_of n = slice_index (codes "0123456789abcdef") n
+
+-- the k lowest numbers below 16 of which a number is made, the highest first
+unfoldable pub low_halves : ℕ → ℕ → List ℕ
+low_halves zero n = []
+low_halves (suc k) n = (n / 16 ^ k % 16) ∷ low_halves k n
+
 -- the k lowest hexadecimal digits of a number, the highest first
 unfoldable pub low_digits : ℕ → ℕ → List ℕ
 low_digits zero n = []

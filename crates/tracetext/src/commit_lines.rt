@@ -1,13 +1,13 @@
 //! The lines of a commit log for instructions, in the form in which Spike logs them.
-ghost use Rattle.std.specs.Prelude.{◌≡◌, ◌<◌, ◌≤◌, ◌+◌, ◌*◌, ◌%◌, ◌^◌, ◌++◌, [], decimal, length, slice_index};
+ghost use Rattle.std.specs.Prelude.{◌≡◌, ◌<◌, ◌≤◌, ◌+◌, ◌%◌, ◌++◌, [], codes, decimal, length, slice_index};
 ghost use Rattle.arrayvec.specs.ArrayVec.{array_vec_len};
-ghost use Rattle.tracetext.specs.Commits.{act_of, at_left, at_right, change, commit_line, instruction_at};
-ghost use Rattle.tracetext.specs.Commits.{is_silent, load_distance, store_distance, stored_text, touched, wide};
-ghost use Rattle.tracetext.specs.Commits.{written};
+ghost use Rattle.tracetext.specs.Commits.{act_of, at_left, at_right, change, commit_line};
+ghost use Rattle.tracetext.specs.Commits.{is_silent, load_distance, low_digits, store_distance, stored_text, touched};
+ghost use Rattle.tracetext.specs.Commits.{wide, written};
 ghost use Rattle.unixmodel.specs.Numbers.{extend};
 ghost use Rattle.unixmodel.specs.Spell.{part};
 
-use crate::digits::{eight, sixteen};
+use crate::digits::sixteen;
 use arrayvec::ArrayVec;
 use itoa::Buffer;
 
@@ -131,6 +131,30 @@ fn put_wide(line: &mut CommitLine, value: u64)
     put(line, &sixteen(value));
 }
 
+// Puts this many of the lowest digits of a number there.
+#[inline(always)]
+fn put_last(line: &mut CommitLine, count: usize, value: u64)
+    requires room { array_vec_len line.old ≤ 80 }
+    requires count { count ≤ 16 }
+    ensures items { line.new.items ≡ line.old.items ++ low_digits count value }
+    ensures len { array_vec_len line.new ≡ array_vec_len line.old + count }
+{
+    let digits = sixteen(value);
+    put(line, &digits[16 - count..]);
+}
+
+// Puts the word of an instruction there, in brackets.
+#[inline(always)]
+fn put_word(line: &mut CommitLine, word: u32)
+    requires { array_vec_len line.old ≤ 76 }
+    ensures items { line.new.items ≡ line.old.items ++ codes " (0x" ++ low_digits 8 word ++ codes ")" }
+    ensures len { array_vec_len line.new ≡ array_vec_len line.old + 13 }
+{
+    put(line, b" (0x");
+    put_last(line, 8, u64::from(word));
+    put(line, b")");
+}
+
 // A number below 10, at the right of four columns.
 #[inline(always)]
 #[tactic(auto, using(crate::proofs::CommitLemmas::one_digit))]
@@ -147,9 +171,6 @@ fn put_core(line: &mut CommitLine, core: u32)
     ensures items { line.new.items ≡ line.old.items ++ at_right (decimal core) }
     ensures len { array_vec_len line.new ≤ array_vec_len line.old + 10 }
 {
-    if core < 10 {
-        return put(line, &one_at_right(core));
-    }
     let mut buffer = Buffer::new();
     let text = buffer.format(core).as_bytes();
     let blanks = b"    ";
@@ -172,6 +193,7 @@ fn at_left(number: u32) -> [u8; 2]
 }
 
 // Puts where memory is read or written.
+#[inline(always)]
 fn put_touched(line: &mut CommitLine, address: u64)
     requires { array_vec_len line.old ≤ 73 }
     ensures items { line.new.items ≡ line.old.items ++ touched address }
@@ -182,6 +204,7 @@ fn put_touched(line: &mut CommitLine, address: u64)
 }
 
 // Puts the register that is written, and its value.
+#[inline(always)]
 fn put_written(line: &mut CommitLine, number: u32, value: u64)
     requires room { array_vec_len line.old ≤ 73 }
     requires number { number < 32 }
@@ -197,48 +220,38 @@ fn put_written(line: &mut CommitLine, number: u32, value: u64)
     put_wide(line, value);
 }
 
-// How many digits a store's bytes have.
-fn stored_digits(word: u32) -> usize
-    ensures count { result ≡ 2 * 2 ^ part word 12 2 }
-    ensures most { result ≤ 16 }
-{
-    match (word >> 12) % 4 {
-        0 => 2,
-        1 => 4,
-        2 => 8,
-        _ => 16,
-    }
-}
-
 // Puts the bytes that are stored, the greatest one first.
+#[inline(always)]
 fn put_stored(line: &mut CommitLine, word: u32, value: u64)
     requires { array_vec_len line.old ≤ 77 }
     ensures items { line.new.items ≡ line.old.items ++ stored_text word value }
     ensures len { array_vec_len line.new ≤ array_vec_len line.old + 19 }
 {
-    let count = stored_digits(word);
-    let digits = sixteen(value);
     put(line, b" 0x");
-    put(line, &digits[16 - count..]);
+    match (word >> 12) % 4 {
+        0 => put_last(line, 2, value),
+        1 => put_last(line, 4, value),
+        2 => put_last(line, 8, value),
+        _ => put_last(line, 16, value),
+    }
 }
 
 impl Commit {
-    // Puts the instruction, and its address, into an empty line.
+    // Puts the instruction, and its address, after the core's number.
+    #[inline(always)]
     fn put_instruction(&self, line: &mut CommitLine)
-        requires { line.old.items ≡ [] }
-        ensures items { line.new.items ≡ instruction_at self.now.core self.now.pc self.now.word }
-        ensures len { array_vec_len line.new ≤ 49 }
+        requires { array_vec_len line.old ≤ 14 }
+        ensures items { line.new.items ≡ line.old.items ++ codes ": 0 " ++ wide self.now.pc ++ codes " (0x"
+            ++ low_digits 8 self.now.word ++ codes ")" }
+        ensures len { array_vec_len line.new ≡ array_vec_len line.old + 35 }
     {
-        put(line, b"core");
-        put_core(line, self.core);
         put(line, b": 0 ");
         put_wide(line, self.pc);
-        put(line, b" (0x");
-        put(line, &eight(u64::from(self.word)));
-        put(line, b")");
+        put_word(line, self.word);
     }
 
     // Puts what it changes.
+    #[inline(always)]
     fn put_change(&self, line: &mut CommitLine)
         requires { array_vec_len line.old ≤ 49 }
         ensures items { line.new.items ≡ line.old.items ++ change self.now.word self.now.value self.now.act }
@@ -259,13 +272,43 @@ impl Commit {
         }
     }
 
+    // Puts its line into an empty one, where the core's number has one digit: so the compiler knows where parts begin.
+    #[inline(always)]
+    fn put_by_digit(&self, line: &mut CommitLine)
+        requires empty { line.old.items ≡ [] }
+        requires digit { self.now.core < 10 }
+        ensures { line.new.items ≡ commit_line self.now.core self.now.pc self.now.word self.now.act self.now.value }
+    {
+        put(line, b"core");
+        put(line, &one_at_right(self.core));
+        self.put_instruction(line);
+        self.put_change(line);
+        put(line, b"\n");
+    }
+
+    // The same for any core.
+    #[inline(never)]
+    fn put_by_number(&self, line: &mut CommitLine)
+        requires { line.old.items ≡ [] }
+        ensures { line.new.items ≡ commit_line self.now.core self.now.pc self.now.word self.now.act self.now.value }
+    {
+        put(line, b"core");
+        put_core(line, self.core);
+        self.put_instruction(line);
+        self.put_change(line);
+        put(line, b"\n");
+    }
+
     /// Puts its line into an empty one.
+    #[inline(always)]
     pub fn put(&self, line: &mut CommitLine)
         requires { line.old.items ≡ [] }
         ensures { line.new.items ≡ commit_line self.now.core self.now.pc self.now.word self.now.act self.now.value }
     {
-        self.put_instruction(line);
-        self.put_change(line);
-        put(line, b"\n");
+        if self.core < 10 {
+            self.put_by_digit(line);
+        } else {
+            self.put_by_number(line);
+        }
     }
 }

@@ -1,58 +1,39 @@
-//! Hexadecimal digits, as many as are wanted.
-ghost use Rattle.std.specs.Prelude.{◌≡◌, codes, slice_index, ◌%◌};
-ghost use Rattle.tracetext.specs.Commits.{low_digits};
+//! Hexadecimal digits, sixteen at once.
+ghost use Rattle.std.specs.Prelude.{◌≡◌, ◌<◌, length, map};
+ghost use Rattle.std.specs.Simd.Lanes.{Each1};
+ghost use Rattle.tracetext.specs.Commits.{digit_of, low_digits, low_halves};
 
-/// The digits in their order.
-const DIGITS: [u8; 16] = *b"0123456789abcdef";
+use std::simd::prelude::*;
 
-// The lowest digit of a number.
+// The digits of numbers below 16.
 #[inline(always)]
-fn digit(n: u64) -> u8
-    ensures { result ≡ slice_index (codes "0123456789abcdef") (n % 16) }
+fn spelled(numbers: u8x16) -> u8x16
+    requires count { length numbers ≡ 16 }
+    requires small { Each1 (λ x. x < 16) numbers }
+    ensures { result ≡ map digit_of numbers }
 {
-    DIGITS[(n % 16) as usize]
+    let above = numbers.simd_gt(u8x16::splat(9));
+    let more = above.select(u8x16::splat(b'a' - b'0' - 10), u8x16::splat(0));
+    numbers + u8x16::splat(b'0') + more
 }
 
-/// The eight lowest digits of a number.
+// The halves of the bytes of a number, the highest first.
 #[inline(always)]
-#[tactic(auto, unfolding(crate::specs::Commits::low_digits))]
-pub fn eight(n: u64) -> [u8; 8]
-    ensures { result ≡ low_digits 8 n }
+fn halves(n: u64) -> u8x16
+    ensures { result ≡ low_halves 16 n }
 {
-    [
-        digit(n >> 28),
-        digit(n >> 24),
-        digit(n >> 20),
-        digit(n >> 16),
-        digit(n >> 12),
-        digit(n >> 8),
-        digit(n >> 4),
-        digit(n),
-    ]
+    let bytes = u64x1::splat(n).to_le_bytes();
+    let (upper, lower) = (bytes >> u8x8::splat(4), bytes & u8x8::splat(15));
+    upper.shuffle(
+        lower,
+        [7, 15, 6, 14, 5, 13, 4, 12, 3, 11, 2, 10, 1, 9, 0, 8],
+    )
 }
 
-/// All sixteen digits.
+/// All sixteen digits of a number.
 #[inline(always)]
-#[tactic(auto, unfolding(crate::specs::Commits::low_digits))]
 pub fn sixteen(n: u64) -> [u8; 16]
     ensures { result ≡ low_digits 16 n }
 {
-    [
-        digit(n >> 60),
-        digit(n >> 56),
-        digit(n >> 52),
-        digit(n >> 48),
-        digit(n >> 44),
-        digit(n >> 40),
-        digit(n >> 36),
-        digit(n >> 32),
-        digit(n >> 28),
-        digit(n >> 24),
-        digit(n >> 20),
-        digit(n >> 16),
-        digit(n >> 12),
-        digit(n >> 8),
-        digit(n >> 4),
-        digit(n),
-    ]
+    spelled(halves(n)).to_array()
 }
