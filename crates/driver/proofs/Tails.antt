@@ -1,8 +1,9 @@
 -- The last bytes of an output.
 use Rattle.std.proofs.Common.{arith, ap, drop, length, List, None, Option, refl, Some, sym, ℕ, ◌+◌, ◌++◌, ◌-◌, ◌∙◌, ◌∷◌}
-use Rattle.std.proofs.Common.{[], ◌<◌, ◌≡◌, ◌≤◌, append-nil, append_assoc, get_or, length-append, take}
-use Rattle.std.proofs.lemmas.List.{drop-append-le, drop-drop, drop_all, length-drop, take_more}
+use Rattle.std.proofs.Common.{[], inl, inr, ◌≡◌, ◌≤◌, ◌⊎◌, length-append, take}
+use Rattle.std.proofs.lemmas.List.{drop-append-le, drop-drop, drop_all, length-drop}
 use Rattle.std.proofs.KnownBytes.{Keeps-refl}
+use Rattle.std.proofs.lemmas.Bool.{cases_lt}
 use Rattle.std.proofs.lemmas.Bool.Decides.{nat_tests}
 use Rattle.std.proofs.lemmas.Cmp.{nat_list_eq_equiv}
 use Rattle.std.specs.Cmp.Lexicographic.{pointwise, same_text, told_text}
@@ -24,19 +25,35 @@ last-more bytes more =
     ap (last_bytes 64) (sym (drop-append-le k bytes more (omega arith)))
     ∙ last-drop 64 k (bytes ++ more) (rw (length-append bytes more) (omega arith))
 
--- a byte more, where there is room
-pub last-room : (bytes : List ℕ) (byte : ℕ) → length bytes < 64
-    → bytes ++ byte ∷ [] ≡ last_bytes 64 (bytes ++ byte ∷ [])
-last-room bytes byte room =
-    let none : length (bytes ++ byte ∷ []) - 64 ≡ 0 = rw (length-append bytes (byte ∷ [])) (omega (arith, room)) in
-    sym (ap (λ n. drop n (bytes ++ byte ∷ [])) none)
+-- after others there is what comes
+drop-front : (xs ys : List ℕ) → drop (length xs) (xs ++ ys) ≡ ys
+drop-front xs ys =
+    drop-append-le (length xs) xs ys (omega arith) ∙ ap (λ none. none ++ ys) (drop_all (length xs) xs (omega arith))
 
--- where there is none
-pub last-full : (bytes : List ℕ) (byte : ℕ) → length bytes ≡ 64
-    → drop 1 bytes ++ byte ∷ [] ≡ last_bytes 64 (bytes ++ byte ∷ [])
-last-full bytes byte full =
-    let one : length (bytes ++ byte ∷ []) - 64 ≡ 1 = rw (length-append bytes (byte ∷ []), full) refl in
-    sym (ap (λ n. drop n (bytes ++ byte ∷ [])) one ∙ drop-append-le 1 bytes (byte ∷ []) (omega (arith, full)))
+-- of bytes after others the last 64 suffice
+last-rest : (xs ys : List ℕ) → last_bytes 64 (xs ++ last_bytes 64 ys) ≡ last_bytes 64 (xs ++ ys)
+last-rest xs ys = elim (cases_lt 64 (length ys)) [
+  | inl more ↦
+      let k = length ys - 64 in
+      let fewer : length (xs ++ drop k ys) - 64 ≡ length xs =
+      rw (length-append xs (drop k ys), length-drop k ys) (omega (arith, more)) in
+      let all : length (xs ++ ys) - 64 ≡ length xs + k = rw (length-append xs ys) (omega (arith, more)) in
+      ap (λ n. drop n (xs ++ drop k ys)) fewer ∙ drop-front xs (drop k ys)
+      ∙ sym (ap (λ n. drop n (xs ++ ys)) all ∙ sym (drop-drop k (length xs) (xs ++ ys))
+      ∙ ap (drop k) (drop-front xs ys))
+  | inr few ↦
+      let none : length ys - 64 ≡ 0 = omega (arith, few) in
+      ap (λ n. last_bytes 64 (xs ++ drop n ys)) none
+]
+
+-- the last of some bytes come after others, of which older ones may be forgotten
+pub last-after : (old kept bytes newest items : List ℕ) → (kept ≡ old) ⊎ (kept ≡ last_bytes 64 old)
+    → newest ≡ last_bytes 64 bytes → items ≡ kept ++ newest → last_bytes 64 items ≡ last_bytes 64 (old ++ bytes)
+last-after old kept bytes newest items which last is = ap (last_bytes 64) (is ∙ ap (λ xs. kept ++ xs) last)
+    ∙ last-rest kept bytes ∙ elim which [
+      | inl all ↦ ap (λ xs. last_bytes 64 (xs ++ bytes)) all
+      | inr some ↦ ap (λ xs. last_bytes 64 (xs ++ bytes)) some ∙ last-more old bytes
+    ]
 
 -- ---- what is known of them
 
@@ -172,6 +189,13 @@ ends-if true count last xs text r test few is =
     ends-within (nat_le (length xs - count) (length xs)) last (last_bytes count xs) text r
     (same_text last (last_bytes 64 (last_bytes count xs)) test) few is
 
+-- a short text is what older bytes end with, too
+pub ends-last : (last text : List ℕ) {r : Bool} → length text ≤ 64
+    → r ≡ pointwise nat_eq text (last_bytes (length text) last)
+    → r ≡ pointwise nat_eq text (last_bytes (length text) (last_bytes 64 last))
+ends-last last text few is =
+    rw (last-drop (length text) (length last - 64) last (omega (arith, few))) is
+
 pub ends-known : (contents : Option (List ℕ)) (count : ℕ) (last text : List ℕ) (r : Bool) → length text ≤ 64
     → r ≡ pointwise nat_eq text (last_bytes (length text) last)
     → IfSome (shown_of (remembered contents count last)) (λ all. MatchBool r (EndsWith text all) (¬ EndsWith text all))
@@ -179,7 +203,7 @@ ends-known None count last text r few is = tt
 ends-known (Some xs) count last text r few is =
     ends-if (pointwise nat_eq last (last_bytes 64 (last_bytes count xs))) count last xs text r refl few is
 
--- ---- bytes one after the other
+-- ---- what is taken
 
 -- as many are taken as are asked for
 pub taken-count : (n : ℕ) (xs : List ℕ) → n ≤ length xs → length (take n xs) ≡ n
@@ -187,16 +211,3 @@ taken-count zero [] few = refl
 taken-count zero (x ∷ xs) few = refl
 taken-count (suc n) [] few = absurd (omega (arith, few))
 taken-count (suc n) (x ∷ xs) few = ap suc (taken-count n xs (omega (arith, few)))
-
-pub last-none : (bytes : List ℕ) → length bytes ≤ 64 → bytes ≡ last_bytes 64 (bytes ++ [])
-last-none bytes few =
-    let none : length bytes - 64 ≡ 0 = omega (arith, few) in
-    sym (ap (last_bytes 64) (append-nil bytes) ∙ ap (λ n. drop n bytes) none)
-
-pub last-next : (old now new bytes : List ℕ) (i : ℕ) → i < length bytes → now ≡ last_bytes 64 (old ++ take i bytes)
-    → new ≡ last_bytes 64 (now ++ get_or bytes i 0 ∷ []) → new ≡ last_bytes 64 (old ++ take (i + 1) bytes)
-last-next old now new bytes i within so_far is =
-    is ∙ ap (λ xs. last_bytes 64 (xs ++ get_or bytes i 0 ∷ [])) so_far
-    ∙ last-more (old ++ take i bytes) (get_or bytes i 0 ∷ [])
-    ∙ ap (last_bytes 64) (append_assoc old (take i bytes) (get_or bytes i 0 ∷ [])
-    ∙ ap (λ xs. old ++ xs) (sym (take_more bytes i 0 within)))

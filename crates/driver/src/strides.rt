@@ -129,6 +129,25 @@ pub fn stride<D: BlockDev, T: Translate, V: Watch, W: Out>(
     (1, give(machine, Event::Step, watch, out))
 }
 
+// Takes steps that nobody watches: many of them in one loop.
+#[inline(always)]
+fn all<D: BlockDev, T: Translate, V: Watch, W: Out>(
+    machine: &mut Machine<D, T>,
+    most: u32,
+    watch: &mut V,
+    out: &mut W,
+) -> Result<(), Halt>
+    requires { IsUp machine.old }
+    ensures gives { RunGivesTo W.contents W.failures machine.old machine.new out.old out.new (replicate most Step)
+        result }
+    ensures later { W.failures out.old ≤ W.failures out.new }
+{
+    if most < LOOP {
+        return each(machine, Event::Step, most, watch, out);
+    }
+    machine.steps(most, out)
+}
+
 /// How far steps may go that are done in one go.
 #[derive(Clone, Copy)]
 pub struct Reach {
@@ -140,8 +159,8 @@ pub struct Reach {
     pub is_exact: bool,
 }
 
-/// The same for a source that may wait for something, or doesn't: then many steps that nobody watches go in one loop.
-/// Where the machine halts, they are all that there may be.
+/// The same for a source that may wait for something, or doesn't: then all steps are taken that nobody watches. Where
+/// the machine halts, they are all that there may be.
 pub fn stretch<D: BlockDev, T: Translate, V: Watch, W: Out>(
     machine: &mut Machine<D, T>,
     reach: Reach,
@@ -161,8 +180,8 @@ pub fn stretch<D: BlockDev, T: Translate, V: Watch, W: Out>(
         aims,
         is_exact,
     } = reach;
-    if !aims && !is_exact && watch.detail() == Detail::Nothing && most >= LOOP {
-        return (most, machine.steps(most, out));
+    if !aims && !is_exact && watch.detail() == Detail::Nothing {
+        return (most, all(machine, most, watch, out));
     }
     stride(machine, most, watch, out)
 }

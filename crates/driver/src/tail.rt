@@ -12,43 +12,56 @@ use events::MOST_SHOWN;
 use std::io::Write;
 use std::marker::Model;
 
+/// How many bytes are kept at most, of which the last 64 are asked for: older ones go many at a time, which is seldom.
+const KEPT: usize = 1024;
+
 /// The output that a writer makes, as `console::Writer` is one, of which the last bytes are remembered.
 #[derive(Drop)]
 pub struct Tail<W: Write> {
     inner: W,
     failed: u64,
-    // How many bytes it took, and the last of them.
+    // How many bytes it took, and the last 64 of them, maybe after older ones.
     count: u64,
-    last: ArrayVec<u8, MOST_SHOWN>,
+    last: ArrayVec<u8, KEPT>,
 }
 
 impl<W: Write> Model for Tail<W> {
     ghost use Rattle.driver.specs.Driven.{Printed};
+    ghost use Rattle.driver.specs.Goals.{last_bytes};
     ghost use Rattle.driver.specs.Tails.{remembered};
 
     ghost Value = { Printed };
 
-    ghost view = { λ t. record { contents = remembered (W.contents t.inner) t.count t.last.items; failed = t.failed } };
+    ghost view = { λ t. record {
+      contents = remembered (W.contents t.inner) t.count (last_bytes 64 t.last.items);
+      failed = t.failed;
+    } };
 }
 
-// Remembers a byte after the others, and forgets the oldest of 64 for it.
-fn push(last: &mut ArrayVec<u8, MOST_SHOWN>, byte: u8)
-    ensures { last.new.items ≡ last_bytes 64 (last.old.items ++ byte ∷ []) }
+// Forgets all but the last 64 bytes.
+#[inline(never)]
+fn forget(last: &mut ArrayVec<u8, KEPT>)
+    ensures { last.new.items ≡ last_bytes 64 last.old.items }
 {
-    if last.is_full() {
-        last.remove(0);
-    }
-    last.push(byte);
+    let older = last.len().saturating_sub(MOST_SHOWN);
+    let left = last.len() - older;
+    last.as_mut_slice().copy_within(older.., 0);
+    last.truncate(left);
 }
 
 // Remembers bytes after the others.
-fn remember(last: &mut ArrayVec<u8, MOST_SHOWN>, bytes: &[u8])
-    ensures { last.new.items ≡ last_bytes 64 (last.old.items ++ bytes.now) }
+fn remember(last: &mut ArrayVec<u8, KEPT>, bytes: &[u8])
+    ensures { last_bytes 64 last.new.items ≡ last_bytes 64 (last.old.items ++ bytes.now) }
 {
-    prove!(last.len() <= MOST_SHOWN);
-    for byte in bytes {
-        push(last, *byte);
+    let (_, newest) = bytes.split_at(bytes.len().saturating_sub(MOST_SHOWN));
+    if newest.len() > KEPT - last.len() {
+        forget(last);
     }
+    if let [byte] = newest {
+        last.push(*byte);
+        return;
+    }
+    last.try_extend_from_slice(newest).unwrap();
 }
 
 impl<W: Write> Tail<W> {
@@ -92,6 +105,7 @@ impl<W: Write> Tail<W> {
     }
 
     // Hands bytes to the writer, and returns how many it took. It takes 2^64 - 1 bytes in all, and fails then.
+    #[inline(always)]
     fn write(&mut self, bytes: &[u8]) -> Result<usize, OutFault>
         ensures some { IfOk result (λ count. (0 < count) × (count ≤ length bytes.now)) }
         ensures takes { MatchResult result (λ count. Appends self.old.contents self.new.contents (take count bytes.now))
@@ -134,6 +148,7 @@ impl<W: Write> Out for Tail<W> {
 
     ghost failures = { λ t. t.failed };
 
+    #[inline(always)]
     fn put(&mut self, bytes: &[u8]) -> Result<(), OutFault> {
         let mut done = 0;
         while done < bytes.len() {

@@ -1,10 +1,14 @@
-use Rattle.driver.proofs.Tails.{last-next, last-none}
+use Rattle.std.proofs.Common.{inl, inr, length, rules, ◌++◌, ◌-◌, ◌∙◌, ◌≡◌}
+use Rattle.driver.proofs.Tails.{last-after}
+use Rattle.driver.specs.Goals.{last_bytes}
 use Rattle.driver.proofs.tail.remember.Goals as goal
+use Rattle.driver.proofs.tail.remember.Goals.{else-newest-len, then-newest-len}
 
-pub loop-byte-init : goal.loop-byte-init
-loop-byte-init c = last-none _ (rw c.len.ensures.value at c.len.ensures.fits)
-
-pub loop-byte-preserved : goal.loop-byte-preserved
-loop-byte-preserved c =
-    last-next c.args.last.now.items c.loop-byte.last.items c.push.new.last.items c.args.bytes.now
-    c.loop-byte.byte-index c.loop-byte-test.true c.loop-byte.invariant c.push.ensures
+pub returns : goal.returns
+returns c =
+    last-after c.args.last.now.items c.if-newest-len.last.items c.args.bytes.now c.split_at.result.1.now
+    c.try_extend_from_slice.new.self.items
+    (elim c.if-newest-len.branch [
+      | then-newest-len w ↦ inr (search rules)
+      | else-newest-len w ↦ inl (search rules)
+    ]) (search rules) (search rules)
