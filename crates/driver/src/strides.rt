@@ -129,7 +129,17 @@ pub fn stride<D: BlockDev, T: Translate, V: Watch, W: Out>(
     (1, give(machine, Event::Step, watch, out))
 }
 
-// Takes steps that nobody watches: many of them in one loop.
+// Whether steps are given as they are asked for, since nobody watches, or each is watched. An idle machine takes them
+// in one go.
+fn is_plain<D: BlockDev, T: Translate>(machine: &Machine<D, T>, detail: Detail) -> bool {
+    match detail {
+        Detail::Nothing => true,
+        Detail::Calls => false,
+        Detail::Steps => !machine.is_idle(),
+    }
+}
+
+// Takes steps as they are asked for: many of them that nobody watches in one loop.
 #[inline(always)]
 fn all<D: BlockDev, T: Translate, V: Watch, W: Out>(
     machine: &mut Machine<D, T>,
@@ -142,10 +152,10 @@ fn all<D: BlockDev, T: Translate, V: Watch, W: Out>(
         result }
     ensures later { W.failures out.old ≤ W.failures out.new }
 {
-    if most < LOOP {
-        return each(machine, Event::Step, most, watch, out);
+    if watch.detail() == Detail::Nothing && most >= LOOP {
+        return machine.steps(most, out);
     }
-    machine.steps(most, out)
+    each(machine, Event::Step, most, watch, out)
 }
 
 /// How far steps may go that are done in one go.
@@ -159,8 +169,8 @@ pub struct Reach {
     pub is_exact: bool,
 }
 
-/// The same for a source that may wait for something, or doesn't: then all steps are taken that nobody watches. Where
-/// the machine halts, they are all that there may be.
+/// The same for a source that may wait for something, or doesn't: then all steps are taken, unless who looks on wants to
+/// see calls alone. Where the machine halts, they are all that there may be.
 pub fn stretch<D: BlockDev, T: Translate, V: Watch, W: Out>(
     machine: &mut Machine<D, T>,
     reach: Reach,
@@ -180,7 +190,7 @@ pub fn stretch<D: BlockDev, T: Translate, V: Watch, W: Out>(
         aims,
         is_exact,
     } = reach;
-    if !aims && !is_exact && watch.detail() == Detail::Nothing {
+    if !aims && !is_exact && is_plain(machine, watch.detail()) {
         return (most, all(machine, most, watch, out));
     }
     stride(machine, most, watch, out)
