@@ -169,8 +169,8 @@ pub struct Reach {
     pub is_exact: bool,
 }
 
-/// The same for a source that may wait for something, or doesn't: then all steps are taken, unless who looks on wants to
-/// see calls alone. Where the machine halts, they are all that there may be.
+/// The same for a source that may wait for something, or doesn't: then all steps are taken, unless who looks on wants
+/// to see calls alone. Where the machine halts, they are all that there may be.
 pub fn stretch<D: BlockDev, T: Translate, V: Watch, W: Out>(
     machine: &mut Machine<D, T>,
     reach: Reach,
