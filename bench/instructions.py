@@ -107,6 +107,14 @@ def clash_rows():
         yield Counted(name, "step", functools.partial(clashing, pages), (1000, 5000))
 
 
+def sum_rows():
+    def summing(gap, rounds):
+        return rows.summed(gap, rounds), rows.SUM_STEPS * rounds
+
+    for name, gap in rows.SUMS:
+        yield Counted(name, "step", functools.partial(summing, gap), (10_000, 40_000))
+
+
 def look_rows():
     def logged(calls):
         job = booting({"init": Program("seldom", CALLS=calls, ROUNDS=497)})
@@ -292,7 +300,8 @@ def text_rows():
 
 def all_rows():
     """Every row, in the order in which they are counted."""
-    machines = [hart_rows, c_rows, clash_rows, multiply_rows, look_rows, page_rows, process_rows, turn_rows, byte_rows]
+    machines = [hart_rows, c_rows, clash_rows, sum_rows, multiply_rows, look_rows, page_rows]
+    machines += [process_rows, turn_rows, byte_rows]
     files = [rewriting_rows, large_rows, name_rows, small_file_rows, making_rows, checking_rows]
     for group in [*machines, *files, text_rows]:
         yield from group()

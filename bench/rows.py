@@ -150,6 +150,27 @@ def clash_rows():
     yield beside_plain(name, clash(APART, rounds), twin(clash(APART, rounds)), other, count=CLASH_STEPS * rounds, unit="step")
 
 
+# ---- data beside code
+
+# Where the sum of `programs/sum.s` lies: after the loop that adds to it, or in the next page.
+SUMS = [("a sum right after its loop", 8), ("a sum a page after its loop", PAGE)]
+
+# The steps of a round.
+SUM_STEPS = 5
+
+
+def summed(gap, rounds):
+    """A sum at the next multiple of `gap` bytes after its loop."""
+    return Flat(Program("sum", ROUNDS=rounds, GAP=gap))
+
+
+def sum_rows():
+    rounds = 4_000_000
+    (name, near), (_, far) = SUMS
+    beside, apart = summed(near, rounds), summed(far, rounds)
+    yield beside_plain(name, beside, twin(beside), Beside("a page after it", apart), count=SUM_STEPS * rounds, unit="step")
+
+
 # ---- multiplication
 
 # The instruction, and the call of a routine that shifts and adds, which a compiler's code has on a machine without it.
@@ -474,7 +495,7 @@ def text_rows():
 
 def all_rows():
     """Every row, in the order in which they are run."""
-    machines = [hart_rows, c_rows, clash_rows, multiply_rows, looking_rows, commit_rows, explore_rows]
+    machines = [hart_rows, c_rows, clash_rows, sum_rows, multiply_rows, looking_rows, commit_rows, explore_rows]
     machines += [page_rows, process_rows, turn_rows, byte_rows]
     files = [rewriting_rows, large_rows, name_rows, small_file_rows, making_rows, checking_rows]
     for group in [*machines, *files, text_rows]:
