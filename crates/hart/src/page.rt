@@ -30,8 +30,7 @@ pub struct Page {
 }
 
 impl Page {
-    #[cold]
-    #[inline(never)]
+    #[inline(always)]
     fn decode(&mut self, k: usize, word: u32)
         requires { k < 1024 }
         ensures is { slice_index self.new.words k ≡ word }
