@@ -25,61 +25,61 @@ pub none-goes : {held held' : Held} (regs : List ℕ) {next : Next} (pc : ℕ) {
 unfolding instruction_of
 none-goes regs pc acts none = absurd (cc (none, acts.does.0))
 
-pub all_none : AreDecoded (replicate 1024 0) (replicate 1056 op.Illegal)
+pub all_none : AreDecoded (replicate 1024 0) (replicate 1040 op.Illegal)
 all_none = record {
   of_words = λ k d within.
-      let ops = get_or-replicate 1056 (k + k / 32) op.Illegal d (omega (arith, within)) in
+      let ops = get_or-replicate 1040 (k + k / 64) op.Illegal d (omega (arith, within)) in
       let words = get_or-replicate 1024 k 0 0 within in
       subst (λ o. IsOp o (slice_index (replicate 1024 0) k)) (sym ops)
       (subst (λ w. IsOp op.Illegal w) (sym words) none_decoded);
   of_ends = λ part d within.
-      let ops = get_or-replicate 1056 (33 * part + 32) op.Illegal d (omega (arith, within)) in
+      let ops = get_or-replicate 1040 (65 * part + 64) op.Illegal d (omega (arith, within)) in
       subst (λ o. IsOp o 0) (sym ops) none_decoded;
 }
 
 -- one word is decoded anew
 pub one_decoded : (words : List ℕ) (ops : List Op) (i word : ℕ) (o : Op) → AreDecoded words ops
-    → length words ≡ 1024 → length ops ≡ 1056 → i < 1024 → IsOp o word
-    → AreDecoded (slice_set words i word) (slice_set ops (i + i / 32) o)
+    → length words ≡ 1024 → length ops ≡ 1040 → i < 1024 → IsOp o word
+    → AreDecoded (slice_set words i word) (slice_set ops (i + i / 64) o)
 one_decoded words ops i word o before w_long o_long within is = record {
   of_words = λ k d below. elim (cases_eq k i) [
     | inl same ↦
         let new_word : slice_index (slice_set words i word) k ≡ word =
         subst (λ j. slice_index (slice_set words i word) j ≡ word) (sym same)
         (get_or-set_same words i word 0 (omega (arith, w_long, within))) in
-        let new_op : slice_index_or (slice_set ops (i + i / 32) o) (k + k / 32) d ≡ o =
-        subst (λ j. slice_index_or (slice_set ops (i + i / 32) o) (j + j / 32) d ≡ o) (sym same)
-        (get_or-set_same ops (i + i / 32) o d (omega (arith, o_long, within))) in
+        let new_op : slice_index_or (slice_set ops (i + i / 64) o) (k + k / 64) d ≡ o =
+        subst (λ j. slice_index_or (slice_set ops (i + i / 64) o) (j + j / 64) d ≡ o) (sym same)
+        (get_or-set_same ops (i + i / 64) o d (omega (arith, o_long, within))) in
         subst (λ p. IsOp p (slice_index (slice_set words i word) k)) (sym new_op)
         (subst (λ w. IsOp o w) (sym new_word) is)
     | inr other ↦
         let old_word : slice_index (slice_set words i word) k ≡ slice_index words k =
         get_or-set_other words i k word 0 other in
-        let old_op : slice_index_or (slice_set ops (i + i / 32) o) (k + k / 32) d ≡ slice_index_or ops (k + k / 32) d =
-        get_or-set_other ops (i + i / 32) (k + k / 32) o d (λ same. other (omega (arith, same))) in
+        let old_op : slice_index_or (slice_set ops (i + i / 64) o) (k + k / 64) d ≡ slice_index_or ops (k + k / 64) d =
+        get_or-set_other ops (i + i / 64) (k + k / 64) o d (λ same. other (omega (arith, same))) in
         subst (λ p. IsOp p (slice_index (slice_set words i word) k)) (sym old_op)
-        (subst (λ w. IsOp (slice_index_or ops (k + k / 32) d) w) (sym old_word) (before.of_words k d below))
+        (subst (λ w. IsOp (slice_index_or ops (k + k / 64) d) w) (sym old_word) (before.of_words k d below))
   ];
   of_ends = λ part d below.
-      let old_op : slice_index_or (slice_set ops (i + i / 32) o) (33 * part + 32) d
-      ≡ slice_index_or ops (33 * part + 32) d =
-      get_or-set_other ops (i + i / 32) (33 * part + 32) o d (λ same. omega (arith, same)) in
+      let old_op : slice_index_or (slice_set ops (i + i / 64) o) (65 * part + 64) d
+      ≡ slice_index_or ops (65 * part + 64) d =
+      get_or-set_other ops (i + i / 64) (65 * part + 64) o d (λ same. omega (arith, same)) in
       subst (λ p. IsOp p 0) (sym old_op) (before.of_ends part d below);
 }
 
 -- the operations of a part are those of the page from its number on
-pub part-ops : (words : List ℕ) (ops : List Op) (part : ℕ) → AreDecoded words ops → length ops ≡ 1056 → part < 32
+pub part-ops : (words : List ℕ) (ops : List Op) (part : ℕ) → AreDecoded words ops → length ops ≡ 1040 → part < 16
     → AreOps words part (drop part ops)
 part-ops words ops part are long within = record {
   long = rw (length-drop part ops) (omega (arith, long, within));
   of_words = λ k d since less.
-      let there : part + k ≡ k + k / 32 = omega (arith, since, less) in
+      let there : part + k ≡ k + k / 64 = omega (arith, since, less) in
       subst (λ p. IsOp p (slice_index words k))
       (sym (get_or-drop part ops k d ∙ ap (λ j. slice_index_or ops j d) there))
       (are.of_words k d (omega (arith, within, less)));
   of_end = λ d.
-      let there : part + (32 * part + 32) ≡ 33 * part + 32 = omega arith in
-      subst (λ p. IsOp p 0) (sym (get_or-drop part ops (32 * part + 32) d ∙ ap (λ j. slice_index_or ops j d) there))
+      let there : part + (64 * part + 64) ≡ 65 * part + 64 = omega arith in
+      subst (λ p. IsOp p 0) (sym (get_or-drop part ops (64 * part + 64) d ∙ ap (λ j. slice_index_or ops j d) there))
       (are.of_ends part d within);
 }
 
@@ -117,9 +117,9 @@ module _ (words words' : List ℕ) (k : ℕ)
   renewed-others first since before j (inr more) =
       others j (λ same. omega (arith, same, more)) ∙ before j (inr (omega (arith, more)))
 
-pub none-checked : (words : List ℕ) (ram : Ram) (f : ℕ) → AreChecked words ram f (replicate 32 false)
+pub none-checked : (words : List ℕ) (ram : Ram) (f : ℕ) → AreChecked words ram f (replicate 16 false)
 none-checked words ram f p below marked =
-    let unmarked : slice_index_or (replicate 32 false) p false ≡ false = get_or-replicate 32 p false false below in
+    let unmarked : slice_index_or (replicate 16 false) p false ≡ false = get_or-replicate 16 p false false below in
     absurd (cc (marked, unmarked))
 
 -- another part than one that is marked anew
@@ -129,8 +129,8 @@ marked-other parts part p mark other marked = sym (get_or-set_other parts part p
 
 -- a part was checked
 pub part-checked : (words words' : List ℕ) (ram : Ram) (f : ℕ) (parts : List Bool) (part : ℕ)
-    → AreNow words' ram f (32 * part) (32 * part + 32)
-    → ((k : ℕ) → (k < 32 * part) ⊎ (32 * part + 32 ≤ k) → slice_index words' k ≡ slice_index words k)
+    → AreNow words' ram f (64 * part) (64 * part + 64)
+    → ((k : ℕ) → (k < 64 * part) ⊎ (64 * part + 64 ≤ k) → slice_index words' k ≡ slice_index words k)
     → AreChecked words ram f parts → AreChecked words' ram f (slice_set parts part true)
 part-checked words words' ram f parts part now others before p below marked k since less = elim (cases_eq p part) [
   | inl same ↦ now k (omega (arith, since, same)) (omega (arith, less, same))

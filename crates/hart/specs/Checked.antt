@@ -9,8 +9,8 @@ AreNow words ram f from to = (k : ℕ) → from ≤ k → k < to → slice_index
 
 -- the words of the parts that are marked are those of a frame
 abbrev pub AreChecked : List ℕ → List (List ℕ) → ℕ → List Bool → Type 0
-AreChecked words ram f parts = (p : ℕ) → p < 32 → slice_index_or parts p false ≡ true
-    → AreNow words ram f (32 * p) (32 * p + 32)
+AreChecked words ram f parts = (p : ℕ) → p < 16 → slice_index_or parts p false ≡ true
+    → AreNow words ram f (64 * p) (64 * p + 64)
 
 -- Frames other than one whose pages are known now: they were known before, and their words are as they were. 4294967295
 -- is no frame.

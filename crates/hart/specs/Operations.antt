@@ -131,15 +131,15 @@ Means op meant = (regs : List ℕ) (pc : ℕ) (see : Sight) → op_by op regs pc
 abbrev pub IsOp : Op → ℕ → Type 0
 IsOp op word = Means op (word_by (instruction_of word))
 
--- The operations of a page are those of its words. After those of each 32 words is one of the word 0, which is no
+-- The operations of a page are those of its words. After those of each 64 words is one of the word 0, which is no
 -- instruction.
 pub record AreDecoded (words : List ℕ) (ops : List Op) : Type 0 where
-  pub of_words : (k : ℕ) (d : Op) → k < 1024 → IsOp (slice_index_or ops (k + k / 32) d) (slice_index words k)
-  pub of_ends : (part : ℕ) (d : Op) → part < 32 → IsOp (slice_index_or ops (33 * part + 32) d) 0
+  pub of_words : (k : ℕ) (d : Op) → k < 1024 → IsOp (slice_index_or ops (k + k / 64) d) (slice_index words k)
+  pub of_ends : (part : ℕ) (d : Op) → part < 16 → IsOp (slice_index_or ops (65 * part + 64) d) 0
 
 -- the operations of a part by the indices of its words in their page, and the one after them
 pub record AreOps (words : List ℕ) (part : ℕ) (ops : List Op) : Type 0 where
-  pub long : 32 * part + 32 < length ops
-  pub of_words : (k : ℕ) (d : Op) → 32 * part ≤ k → k < 32 * part + 32
+  pub long : 64 * part + 64 < length ops
+  pub of_words : (k : ℕ) (d : Op) → 64 * part ≤ k → k < 64 * part + 64
       → IsOp (slice_index_or ops k d) (slice_index words k)
-  pub of_end : (d : Op) → IsOp (slice_index_or ops (32 * part + 32) d) 0
+  pub of_end : (d : Op) → IsOp (slice_index_or ops (64 * part + 64) d) 0

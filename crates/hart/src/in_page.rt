@@ -7,7 +7,7 @@ use crate::bits;
 use std::marker::Model;
 
 /// How many words a part of a page has.
-pub const PART: usize = 32;
+pub const PART: usize = 64;
 
 /// A part of a page, by its number.
 #[derive(Clone, Copy)]
@@ -22,7 +22,7 @@ impl Model for Part {
 
     ghost view = { λ p. p.number };
 
-    ghost invariant = { λ p. p.number < 32 };
+    ghost invariant = { λ p. p.number < 16 };
 
     ghost inverse = { λ n. record { number = n } };
 }
@@ -32,7 +32,7 @@ impl Part {
     #[inline(always)]
     pub fn of_word(k: usize) -> Part
         requires { k < 1024 }
-        ensures { result ≡ k / 32 }
+        ensures { result ≡ k / 64 }
     {
         Part { number: k / PART }
     }
@@ -41,7 +41,7 @@ impl Part {
     #[inline(always)]
     pub fn number(self) -> usize
         ensures is { result ≡ self }
-        ensures within { result < 32 }
+        ensures within { result < 16 }
     {
         self.number
     }
@@ -49,7 +49,7 @@ impl Part {
     /// The index after its last word.
     #[inline(always)]
     pub fn end(self) -> usize
-        ensures is { result ≡ 32 * self + 32 }
+        ensures is { result ≡ 64 * self + 64 }
         ensures within { result ≤ 1024 }
     {
         PART * self.number + PART

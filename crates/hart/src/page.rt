@@ -58,8 +58,8 @@ impl Page {
     #[inline(always)]
     fn has(&self, ram: &Ram, f: FrameNo, from: usize) -> bool
         requires frame { f.0 < length ram.now }
-        requires place { from + 32 ≤ 1024 }
-        ensures { result ≡ true → AreNow self.now.words ram.now f.0 from (from + 32) }
+        requires place { from + 64 ≤ 1024 }
+        ensures { result ≡ true → AreNow self.now.words ram.now f.0 from (from + 64) }
     {
         let mut same = true;
         for k in from..from + PART {
@@ -87,9 +87,9 @@ impl Page {
     // The same of as many words as a part has.
     fn refresh(&mut self, ram: &Ram, f: FrameNo, from: usize)
         requires frame { f.0 < length ram.now }
-        requires place { from + 32 ≤ 1024 }
-        ensures now { AreNow self.new.words ram.now f.0 from (from + 32) }
-        ensures others { (k : ℕ) → (k < from) ⊎ (from + 32 ≤ k) →
+        requires place { from + 64 ≤ 1024 }
+        ensures now { AreNow self.new.words ram.now f.0 from (from + 64) }
+        ensures others { (k : ℕ) → (k < from) ⊎ (from + 64 ≤ k) →
             slice_index self.new.words k ≡ slice_index self.old.words k }
         ensures parts { self.new.parts ≡ self.old.parts }
     {
@@ -106,8 +106,8 @@ impl Page {
         requires place { k < 1024 }
         requires checked { AreChecked self.old.words ram.now f.0 self.old.parts }
         ensures checked { AreChecked self.new.words ram.now f.0 self.new.parts }
-        ensures part { result ≡ k / 32 }
-        ensures now { AreNow self.new.words ram.now f.0 (32 * result) (32 * result + 32) }
+        ensures part { result ≡ k / 64 }
+        ensures now { AreNow self.new.words ram.now f.0 (64 * result) (64 * result + 64) }
     {
         let part = Part::of_word(k);
         if !self.parts[part.number()] {
@@ -120,10 +120,10 @@ impl Page {
     #[inline(never)]
     fn check(&mut self, ram: &Ram, f: FrameNo, part: usize)
         requires frame { f.0 < length ram.now }
-        requires part { part < 32 }
+        requires part { part < 16 }
         requires checked { AreChecked self.old.words ram.now f.0 self.old.parts }
         ensures checked { AreChecked self.new.words ram.now f.0 self.new.parts }
-        ensures now { AreNow self.new.words ram.now f.0 (32 * part) (32 * part + 32) }
+        ensures now { AreNow self.new.words ram.now f.0 (64 * part) (64 * part + 64) }
     {
         self.refresh(ram, f, PART * part);
         self.parts[part] = true;

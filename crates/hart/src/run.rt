@@ -135,14 +135,14 @@ fn end_of<S: Stops, const LEAST: usize>(
     k: usize,
     left: usize,
 ) -> usize
-    requires least { (LEAST ≡ 1) ⊎ ((LEAST ≡ 32) × (S.addresses stops.now ≡ [])) }
-    requires part { part ≡ k / 32 }
+    requires least { (LEAST ≡ 1) ⊎ ((LEAST ≡ 64) × (S.addresses stops.now ≡ [])) }
+    requires part { part ≡ k / 64 }
     requires some { (LEAST ≤ left) × (left < 2 ^ 32) }
     requires free { (free.here.from ≤ k + 1) × (k < free.here.to) }
     ensures after { k < result }
     ensures left { result ≤ k + left }
-    ensures end { (result ≤ 32 * part + 32) × (result ≤ 1024) }
-    ensures whole { (LEAST ≡ 1) ⊎ (result ≡ 32 * part + 32) }
+    ensures end { (result ≤ 64 * part + 64) × (result ≤ 1024) }
+    ensures whole { (LEAST ≡ 1) ⊎ (result ≡ 64 * part + 64) }
     ensures clear { (base : ℕ) → AreFree (S.addresses stops.now) base free →
         IsClear (S.addresses stops.now) base k result }
 {
@@ -193,8 +193,8 @@ impl Hart {
         trans: &mut T,
     ) -> (usize, Next)
         requires inside { HoldsInside (T.held trans.old) ram.old }
-        requires places { (32 * part ≤ from) × (from < end) × (end ≤ 32 * part + 32) × (end ≤ 1024) }
-        requires least { (LEAST ≡ 1) ⊎ (end ≡ 32 * part + 32) }
+        requires places { (64 * part ≤ from) × (from < end) × (end ≤ 64 * part + 64) × (end ≤ 1024) }
+        requires least { (LEAST ≡ 1) ⊎ (end ≡ 64 * part + 64) }
         requires page { base % 4096 ≡ 0 }
         requires live { IsLive live.now.frames f.0 }
         requires now { AreNow page.now.words ram.old f.0 from end }
@@ -234,7 +234,7 @@ impl Hart {
 
     // Does at most `count` operations of the page of the pc, which has frame `f`, until a jump leaves the page, up to a
     // stop, or until fewer than `LEAST` are left. Returns how many are left, and a trap. What is known of pages still
-    // holds. Where `LEAST` is 32, as many as a part has, each part that is entered is done to its end.
+    // holds. Where `LEAST` is 64, as many as a part has, each part that is entered is done to its end.
     #[inline(never)]
     fn run_page<T: Translate, S: Stops, const LEAST: usize>(
         &mut self,
@@ -248,7 +248,7 @@ impl Hart {
     ) -> (u32, Option<Trap>)
         requires inside { HoldsInside (T.held trans.old) ram.old }
         requires frame { f.0 < length ram.old }
-        requires least { (LEAST ≡ 1) ⊎ ((LEAST ≡ 32) × (S.addresses stops.now ≡ [])) }
+        requires least { (LEAST ≡ 1) ⊎ ((LEAST ≡ 64) × (S.addresses stops.now ≡ [])) }
         requires some { LEAST ≤ count }
         requires live { IsLive live.old.frames f.0 }
         requires checked { AreChecked page.old.words ram.old f.0 page.old.parts }

@@ -17,7 +17,7 @@ early g c none = elim c.word.invariant.marked [
   | inr whole ↦ elim (cases_lt c.word.k c.args.end) [
     | inl less ↦ less
     | inr most ↦
-        let end : c.word.k ≡ 32 * c.args.part + 32 = omega (arith, most, whole, c.word.invariant.within) in
+        let end : c.word.k ≡ 64 * c.args.part + 64 = omega (arith, most, whole, c.word.invariant.within) in
         absurd (none-goes _ _ (acts-meant _ 0 (rw end (c.ops_of-ops.ensures.of_end op.Illegal))
         (c.obey.ensures.acts op.Illegal)) none)
   ]

@@ -6,7 +6,7 @@ abbrev pub invariant-word : goal.invariant-word
 invariant-word g l = record {
   since : l.from ≤ l.k;
   within : l.k ≤ l.end;
-  marked : (l.k < l.end) ⊎ (l.end ≡ 32 * l.fn.part + 32);
+  marked : (l.k < l.end) ⊎ (l.end ≡ 64 * l.fn.part + 64);
   done : GoesStraight (g.T.Translate.held l.fn.trans) (g.T.Translate.held l.trans) l.fn.self l.self l.fn.ram l.ram
       l.base l.from l.k l.fn.f.0;
   words : (f : ℕ) → IsLive l.live.frames f → (k : ℕ) → word_of l.ram f (4 * k) 4 ≡ word_of l.fn.ram f (4 * k) 4;
