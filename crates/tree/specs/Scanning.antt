@@ -1,13 +1,25 @@
 -- What a scan of a directory's slots finds.
 use Rattle.std.specs.Prelude.{Bool, List, None, Option, Some, is_none, is_some, length, ℕ, ◌*◌, ◌/◌, ◌<◌, ◌≡◌, ◌≤◌}
-use Rattle.std.specs.Prelude.{true, false, ◌||◌}
+use Rattle.std.specs.Prelude.{true, false, get_or, ⊤, ◌||◌}
 use Rattle.blockdev.specs.Splice.{part}
 use Rattle.imagerules.specs.Places.{place_of_bytes}
+use Rattle.tree.specs.declared.place.Beginning.{Beginning}
 use Rattle.tree.specs.declared.place.Found.{Found}
 use Rattle.tree.specs.declared.place.Sought.{Sought}
 use Rattle.tree.specs.declared.place.Sought.TheVariants.{Name, NameOrFree, Taken}
 use Rattle.unixmodel.specs.Files.{Entry, has_name}
 use Rattle.unixmodel.specs.Numbers.{number_at}
+
+-- a name begins so, with 0 for bytes that it doesn't have
+pub record Begins (name : List ℕ) (begins : Beginning) : Type 0 where
+  pub first : begins.first ≡ get_or name 0 0
+  pub second : begins.second ≡ get_or name 1 0
+
+-- so does the name that is sought, if one is
+abbrev pub BeginsWith : Sought → Beginning → Type 0
+BeginsWith (Name name) begins = Begins name.now begins
+BeginsWith (NameOrFree name) begins = Begins name.now begins
+BeginsWith Taken begins = ⊤
 
 -- whether a slot is what is sought
 abbrev pub is_sought : Sought → Option Entry → Bool

@@ -4,7 +4,7 @@ ghost use Rattle.std.specs.Prelude.{◌≡◌, IsSome, ℕ, ◌+◌, ◌-◌, �
 ghost use Rattle.std.specs.Prelude.{length, nat_lt, ◌&&◌};
 ghost use Rattle.tree.specs.Entering.{room_behind, room_told};
 ghost use Rattle.tree.specs.Names.{is_bare};
-ghost use Rattle.tree.specs.Scanning.{Scans, is_sought};
+ghost use Rattle.tree.specs.Scanning.{Begins, BeginsWith, Scans, is_sought};
 ghost use Rattle.imagerules.specs.Places.{place_of_bytes};
 ghost use Rattle.tree.specs.Steps.{IsFolder, Reads};
 ghost use Rattle.unixmodel.specs.Files.{has_name, lookup, slot};
@@ -42,22 +42,40 @@ pub enum Room {
     At(usize),
 }
 
-// The byte that a name begins with, 0 where it is empty.
-fn first_byte(name: &[u8]) -> u8
-    ensures { result ≡ get_or name.now 0 0 }
+// The first two bytes of a name, 0 where it has none.
+#[derive(Clone, Copy)]
+struct Beginning {
+    first: u8,
+    second: u8,
+}
+
+// A byte of a name, 0 after its end.
+fn byte_at(name: &[u8], at: usize) -> u8
+    ensures { result ≡ get_or name.now at 0 }
 {
-    match name.first() {
+    match name.get(at) {
         Some(byte) => *byte,
         None => 0,
     }
 }
 
-// Whether a slot has this name. Most others differ in their first byte.
-fn has_name(place: &[u8], name: &[u8]) -> bool
-    requires { length place.now ≡ 16 }
+// How a name begins.
+fn beginning_of(name: &[u8]) -> Beginning
+    ensures { Begins name.now result }
+{
+    Beginning {
+        first: byte_at(name, 0),
+        second: byte_at(name, 1),
+    }
+}
+
+// Whether a slot has this name. Most others begin otherwise.
+fn has_name(place: &[u8], name: &[u8], begins: Beginning) -> bool
+    requires long { length place.now ≡ 16 }
+    requires begins { Begins name.now begins }
     ensures { result ≡ has_name name.now (place_of_bytes place.now) }
 {
-    if place[2] != first_byte(name) || is_free(place) {
+    if place[2] != begins.first || place[3] != begins.second || is_free(place) {
         return false;
     }
     name_in(place) == name
@@ -74,14 +92,28 @@ enum Sought<'a> {
     Taken,
 }
 
+// How the name that is sought begins.
+fn begins_with(sought: &Sought) -> Beginning
+    ensures { BeginsWith sought.now result }
+{
+    match sought {
+        Sought::Name(name) | Sought::NameOrFree(name) => beginning_of(name),
+        Sought::Taken => Beginning {
+            first: 0,
+            second: 0,
+        },
+    }
+}
+
 // Whether a slot is what is sought.
-fn is_sought(place: &[u8], sought: &Sought) -> bool
-    requires { length place.now ≡ 16 }
+fn is_sought(place: &[u8], sought: &Sought, begins: Beginning) -> bool
+    requires long { length place.now ≡ 16 }
+    requires begins { BeginsWith sought.now begins }
     ensures { result ≡ is_sought sought.now (place_of_bytes place.now) }
 {
     match sought {
-        Sought::Name(name) => has_name(place, name),
-        Sought::NameOrFree(name) => is_free(place) || has_name(place, name),
+        Sought::Name(name) => has_name(place, name, begins),
+        Sought::NameOrFree(name) => is_free(place) || has_name(place, name, begins),
         Sought::Taken => !is_free(place),
     }
 }
@@ -90,9 +122,10 @@ fn is_sought(place: &[u8], sought: &Sought) -> bool
 fn first(places: &[u8], sought: &Sought) -> Option<Found>
     ensures { Scans sought.now places.now 0 result }
 {
+    let begins = begins_with(sought);
     for k in 0..places.len() / PLACE_SIZE {
         let place = place_at(places, k);
-        if is_sought(place, sought) {
+        if is_sought(place, sought, begins) {
             return Some(Found {
                 place: k,
                 number: usize::from(number_in(place)),
