@@ -180,7 +180,7 @@ pub(crate) fn take<D: BlockDev, T: Translate>(
     ensures tree { LeavesDisk kernel.old.tree kernel.new.tree result }
 {
     kernel.is_sound();
-    let Some(process) = kernel.process(at).copied() else {
+    let Some(process) = kernel.process(at) else {
         return Ok(());
     };
     if process.killed {

@@ -129,35 +129,6 @@ pub fn stride<D: BlockDev, T: Translate, V: Watch, W: Out>(
     (1, give(machine, Event::Step, watch, out))
 }
 
-// Whether steps are given as they are asked for, since nobody watches, or each is watched. An idle machine takes them
-// in one go.
-fn is_plain<D: BlockDev, T: Translate>(machine: &Machine<D, T>, detail: Detail) -> bool {
-    match detail {
-        Detail::Nothing => true,
-        Detail::Calls => false,
-        Detail::Steps => !machine.is_idle(),
-    }
-}
-
-// Takes steps as they are asked for: many of them that nobody watches in one loop.
-#[inline(always)]
-fn all<D: BlockDev, T: Translate, V: Watch, W: Out>(
-    machine: &mut Machine<D, T>,
-    most: u32,
-    watch: &mut V,
-    out: &mut W,
-) -> Result<(), Halt>
-    requires { IsUp machine.old }
-    ensures gives { RunGivesTo W.contents W.failures machine.old machine.new out.old out.new (replicate most Step)
-        result }
-    ensures later { W.failures out.old ≤ W.failures out.new }
-{
-    if watch.detail() == Detail::Nothing && most >= LOOP {
-        return machine.steps(most, out);
-    }
-    each(machine, Event::Step, most, watch, out)
-}
-
 /// How far steps may go that are done in one go.
 #[derive(Clone, Copy)]
 pub struct Reach {
@@ -190,8 +161,13 @@ pub fn stretch<D: BlockDev, T: Translate, V: Watch, W: Out>(
         aims,
         is_exact,
     } = reach;
-    if !aims && !is_exact && is_plain(machine, watch.detail()) {
-        return (most, all(machine, most, watch, out));
+    if aims || is_exact {
+        return stride(machine, most, watch, out);
     }
-    stride(machine, most, watch, out)
+    match watch.detail() {
+        Detail::Nothing if most >= LOOP => (most, machine.steps(most, out)),
+        Detail::Calls => stride(machine, most, watch, out),
+        Detail::Steps if machine.is_idle() => stride(machine, most, watch, out),
+        Detail::Nothing | Detail::Steps => (most, each(machine, Event::Step, most, watch, out)),
+    }
 }

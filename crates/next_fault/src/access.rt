@@ -7,6 +7,7 @@ ghost use Rattle.unixmodel.specs.Numbers.{number};
 ghost use Rattle.vm.specs.Leaf.{marks_from};
 
 use blockdev::BlockDev;
+use byteorder::{ByteOrder, LittleEndian};
 use machine::{Machine, Perm};
 use sv39::Translate;
 use unixmodel::trap::Access;
@@ -49,50 +50,19 @@ fn byte(page: &[u8], at: usize) -> u32
     }
 }
 
-// A byte of a page that is not after its end.
-#[inline(always)]
-fn inner_byte(page: &[u8; 4096], at: usize) -> u32
-    requires { at < 4096 }
-    ensures value { result ≡ unwrap_or (slice_get page.now at) 0 }
-    ensures small { result < 256 }
-{
-    u32::from(page[at])
-}
-
-// The number of four bytes of a page, which the compiler loads at once.
-#[inline(always)]
-fn inner_word(page: &[u8; 4096], at: usize) -> u32
-    requires { at + 3 < 4096 }
-    ensures { result ≡ number (slice_range page.now at (at + 4)) }
-{
-    inner_byte(page, at)
-        + 0x100 * inner_byte(page, at + 1)
-        + 0x1_0000 * inner_byte(page, at + 2)
-        + 0x100_0000 * inner_byte(page, at + 3)
-}
-
 // The number of the four bytes from an offset in a page on, of which some may be past its end.
-fn outer_word(page: &[u8; 4096], at: usize) -> u32
-    requires { at < 4096 }
-    ensures { result ≡ number (slice_range page.now at (at + 4)) }
-{
-    byte(page, at)
-        + 0x100 * byte(page, at + 1)
-        + 0x1_0000 * byte(page, at + 2)
-        + 0x100_0000 * byte(page, at + 3)
-}
-
-// The number of the four bytes from an offset in a page on.
 #[inline]
 fn word_at(page: &[u8; 4096], at: usize) -> u32
     requires { at < 4096 }
     ensures { result ≡ number (slice_range page.now at (at + 4)) }
 {
-    if at + 3 < 4096 {
-        inner_word(page, at)
-    } else {
-        outer_word(page, at)
+    if at + 4 <= 4096 {
+        return LittleEndian::read_u32(&page[at..at + 4]);
     }
+    byte(page, at)
+        + 0x100 * byte(page, at + 1)
+        + 0x1_0000 * byte(page, at + 2)
+        + 0x100_0000 * byte(page, at + 3)
 }
 
 /// The word of the instruction at an address, where it may be fetched.

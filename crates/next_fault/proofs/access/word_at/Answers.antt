@@ -1,5 +1,5 @@
 use Rattle.std.proofs.Common.{sym}
-use Rattle.next_fault.proofs.access.outer_word.Goals as goal
+use Rattle.next_fault.proofs.access.word_at.Goals as goal
 use Rattle.next_fault.proofs.Cycles.{word-is}
 
 pub returns : goal.returns
