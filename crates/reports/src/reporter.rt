@@ -525,6 +525,7 @@ impl Reporter {
     }
 
     /// Looks at the machine before an event. Steps that were counted may be left out.
+    #[inline(never)]
     pub fn before<D: BlockDev, T: Translate>(&mut self, machine: &Machine<D, T>, event: Event)
         ensures { self.new ≡ record self.old {
           counts = counted event self.old.counts;
@@ -542,6 +543,7 @@ impl Reporter {
     }
 
     /// Looks at the machine after the event, which returned `ended`.
+    #[inline(never)]
     pub fn after<D: BlockDev, T: Translate>(
         &mut self,
         machine: &Machine<D, T>,

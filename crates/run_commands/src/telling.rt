@@ -106,12 +106,14 @@ impl Watch for Teller {
         }
     }
 
+    #[inline]
     fn before<D: BlockDev, T: Translate>(&mut self, machine: &Machine<D, T>, event: Event) {
         if self.reporter.sees_calls() {
             self.reporter.before(machine, event);
         }
     }
 
+    #[inline]
     fn after<D: BlockDev, T: Translate>(
         &mut self,
         machine: &Machine<D, T>,

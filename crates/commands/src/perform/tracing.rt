@@ -9,7 +9,7 @@ use run_commands::{
     Both, Ended, Finish, Gauge, Performed, Piece, Setting, Show, Teller, keep, looks_on,
     perform_watched, pid_of, plays, read_run, script_of, scripted, symbolizer_of,
 };
-use std::alloc::Global;
+use std::alloc::{AllocError, Global};
 use std::io::Write;
 use std::num::NonZeroU64;
 use symbolizer::Symbolizer;
@@ -53,15 +53,10 @@ impl<'a> Sheet<'a> {
         done
     }
 
-    // Puts bytes after the others.
-    fn put<H: Host>(&mut self, host: &mut H, bytes: &[u8]) -> Result<(), Failure<'a>> {
-        if self.waiting.extend_from_slice(bytes).is_err() {
-            return Err(Failure::NoMemory);
-        }
-        if self.waiting.len() < MOST_WAITING {
-            return Ok(());
-        }
-        self.write_out(host)
+    // Puts bytes after the others; whether so many wait now that they are to be written.
+    fn keep(&mut self, bytes: &[u8]) -> Result<bool, AllocError> {
+        self.waiting.extend_from_slice(bytes)?;
+        Ok(self.waiting.len() >= MOST_WAITING)
     }
 }
 
@@ -92,15 +87,44 @@ impl<'a, 'b, H: Host, E: Write> Sheets<'a, 'b, H, E> {
         }
     }
 
-    // A line of the text, to its file or to standard error.
-    fn put_text(&mut self, bytes: &[u8]) -> Result<(), Failure<'a>> {
-        if self.text.name.is_some() {
-            return self.text.put(self.host, bytes);
+    // The file of a form.
+    fn sheet(&mut self, form: Form) -> &mut Sheet<'a> {
+        match form {
+            Form::Text => &mut self.text,
+            Form::Spans => &mut self.spans,
+            Form::Commits => &mut self.commits,
+            Form::Events => &mut self.events,
         }
+    }
+
+    // Writes the bytes of a form that wait.
+    #[cold]
+    fn write_out(&mut self, form: Form) -> Result<(), Failure<'a>> {
+        match form {
+            Form::Text => self.text.write_out(self.host),
+            Form::Spans => self.spans.write_out(self.host),
+            Form::Commits => self.commits.write_out(self.host),
+            Form::Events => self.events.write_out(self.host),
+        }
+    }
+
+    // Writes a text that has no file on standard error.
+    fn print(&mut self, bytes: &[u8]) -> Result<(), Failure<'a>> {
         match self.stderr.write_all(bytes) {
             Ok(()) => Ok(()),
             Err(_) => Err(Failure::Write("standard error")),
         }
+    }
+
+    // Keeps why something could not be written, if it is the first.
+    fn settle(&mut self, done: Result<(), Failure<'a>>) -> Result<(), SinkFault> {
+        let Err(failure) = done else {
+            return Ok(());
+        };
+        if self.failure.is_none() {
+            self.failure = Some(failure);
+        }
+        Err(SinkFault)
     }
 
     // Writes the files to their ends; why not all of them are whole.
@@ -127,21 +151,16 @@ impl<'a, 'b, H: Host, E: Write> Sheets<'a, 'b, H, E> {
 
 impl<H: Host, E: Write> Sinks for Sheets<'_, '_, H, E> {
     fn put(&mut self, form: Form, bytes: &[u8]) -> Result<(), SinkFault> {
-        let done = match form {
-            Form::Text => self.put_text(bytes),
-            Form::Spans => self.spans.put(self.host, bytes),
-            Form::Commits => self.commits.put(self.host, bytes),
-            Form::Events => self.events.put(self.host, bytes),
-        };
-        match done {
-            Ok(()) => Ok(()),
-            Err(failure) => {
-                if self.failure.is_none() {
-                    self.failure = Some(failure);
-                }
-                Err(SinkFault)
-            }
+        if form == Form::Text && self.text.name.is_none() {
+            let done = self.print(bytes);
+            return self.settle(done);
         }
+        let done = match self.sheet(form).keep(bytes) {
+            Ok(false) => return Ok(()),
+            Ok(true) => self.write_out(form),
+            Err(_) => Err(Failure::NoMemory),
+        };
+        self.settle(done)
     }
 }
 
