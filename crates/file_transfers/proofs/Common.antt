@@ -1,7 +1,7 @@
 -- The names from elsewhere that the lemmas of this crate import, in one file. Declares nothing.
 pub use Rattle.std.proofs.Common.{◌%◌, ◌*◌, ◌+◌, ◌++◌, ◌-◌, ◌/◌, ◌<◌, [], ◌^◌, ap, append-nil, append_assoc, arith}
 pub use Rattle.std.proofs.Common.{Bool, drop, Err, false, inl, inr, is_some, length, List, map, min, None, Ok, Option}
-pub use Rattle.std.proofs.Common.{refl, replicate, Result, slice_set, Some, subst, suc, sym, take, true, unwrap_or}
+pub use Rattle.std.proofs.Common.{refl, replicate, Result, rules, slice_set, Some, subst, suc, sym, take, true, unwrap_or}
 pub use Rattle.std.proofs.Common.{zero, ℕ, ◌∙◌, ◌∷◌, ◌≡◌, ◌≤◌, ◌⊎◌}
 pub use Rattle.std.proofs.Math.Seq.{drop-append-add, take-add, take-append-add}
 pub use Rattle.std.proofs.lemmas.Bool.{and_from, and_left, and_right, cases_Bool, cases_eq, cases_lt, cond-false}
@@ -23,4 +23,4 @@ pub use Rattle.vm.proofs.ReachLemmas.{reach-page}
 pub use Rattle.vm.proofs.StoreLemmas.{write-none}
 pub use Rattle.vm.specs.Reach.{IsSized, piece_at}
 unfoldable pub use Rattle.vm.specs.Reach.{run_of}
-pub use Rattle.file_transfers.specs.Moved.{bytes_given, bytes_of, bytes_read, IsRead, ReadsSome, with_read}
+pub use Rattle.file_transfers.specs.Moved.{bytes_given, bytes_of, bytes_read, IsRead, Reads, ReadsSome, with_read}

@@ -5,8 +5,9 @@ use Rattle.file_transfers.proofs.Common.{length-append, length-drop, length-take
 use Rattle.file_transfers.proofs.Common.{can_write, reach, IsSized, write-none, ◌^◌, min, Ok, Err, Option, Result}
 use Rattle.file_transfers.proofs.Common.{replicate, slice_set, OnErr, take-add, length-replicate, set-get_or, set-set}
 use Rattle.file_transfers.proofs.Common.{take_min, SpaceView, Spaces, has_space, view_at, no_pages, with_view, IsRead}
-use Rattle.file_transfers.proofs.Common.{ReadsSome, bytes_of, bytes_read, FileTree, Files, Node, node_bytes, slot}
-use Rattle.file_transfers.proofs.Common.{reach-page}
+use Rattle.file_transfers.proofs.Common.{Reads, ReadsSome, bytes_of, bytes_read, FileTree, Files, Node, node_bytes, slot}
+use Rattle.file_transfers.proofs.Common.{false, get_or-set_same, reach-page}
+use Rattle.file_transfers.proofs.Fits.{serves-told}
 use Rattle.file_transfers.proofs.Memory.{writes-rest, written-twice}
 use Rattle.blockdev.specs.Splice.{part}
 use Rattle.spaces.specs.Spaces.{written}
@@ -96,6 +97,22 @@ module _ {old now : FileTree} {before after : Spaces} {at number offset address 
 
   pub read-end : count ≤ done → done ≡ length (bytes_read old.files number offset count)
   read-end over = let low = has.some in let high = has.within in omega (arith, over, low, high, length-take count rest)
+
+  -- the read is done
+  pub reads-all : old.failed ≡ false → done ≡ length (bytes_read old.files number offset count)
+      → Reads old now before after at number offset address count (Ok done)
+  reads-all up whole = record {
+    serves = serves-told done (read-all whole).0 (ap (λ (t : FileTree). t.failed) has.same ∙ up)
+        (ap (λ (t : FileTree). t.identity) has.same) has.later;
+    written = (read-all whole).1;
+    failed = tt;
+  }
+
+  -- the slot still has a space
+  pub space-read : has_space before at ≡ true → has_space after at ≡ true
+  space-read space = ap (λ (s : Spaces). has_space s at) has.bytes
+      ∙ ap is_some (get_or-set_same before.places at (Some (written (view_at before at) address
+      (bytes_read old.files number offset done))) None (space-within before at space))
 
   -- one more piece
   module _ {size got : ℕ} {next : FileTree} (fits : done + size ≤ count)

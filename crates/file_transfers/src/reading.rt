@@ -1,11 +1,8 @@
 //! From a node to the memory of a process.
 
-ghost use Rattle.std.specs.Prelude.{◌≡◌, OnErr, OnOk, Some, false, length, true};
-ghost use Rattle.spaces.specs.Spaces.{has_space, view_at};
-ghost use Rattle.file_transfers.specs.Moved.{IsRead, ReadsSome, with_read};
+ghost use Rattle.std.specs.Prelude.{◌≡◌, OnErr, OnOk, length};
+ghost use Rattle.file_transfers.specs.Moved.{IsRead, MayRead, Reads, with_read};
 ghost use Rattle.tree.specs.Tree.{Serves};
-ghost use Rattle.unixmodel.specs.Files.{Node, slot};
-ghost use Rattle.unixmodel.specs.Memory.{can_write};
 
 use blockdev::{BLOCK_SIZE, BlockDev, DeviceFault};
 use spaces::Spaces;
@@ -26,10 +23,7 @@ fn read_piece<D: BlockDev, T: Translate>(
     address: u64,
     buffer: &mut [u8],
 ) -> Result<usize, DeviceFault>
-    requires up { tree.old.failed ≡ false }
-    requires node { (node : Node) × (slot tree.old.files number ≡ Some node) }
-    requires space { has_space spaces.old at ≡ true }
-    requires writable { can_write (view_at spaces.old at).memory address (length buffer.old) ≡ true }
+    requires { MayRead tree.old spaces.old at number address (length buffer.old) }
     ensures serves { Serves tree.old tree.new result (IsRead tree.old tree.new number offset (length buffer.old)) }
     ensures written { OnOk result
         (spaces.new ≡ with_read spaces.old at address tree.old.files number offset (length buffer.old)) }
@@ -52,13 +46,8 @@ pub fn read_node<D: BlockDev, T: Translate>(
     address: u64,
     count: u64,
 ) -> Result<u64, DeviceFault>
-    requires up { tree.old.failed ≡ false }
-    requires node { (node : Node) × (slot tree.old.files number ≡ Some node) }
-    requires space { has_space spaces.old at ≡ true }
-    requires writable { can_write (view_at spaces.old at).memory address count ≡ true }
-    ensures serves { Serves tree.old tree.new result (IsRead tree.old tree.new number offset count) }
-    ensures written { OnOk result (spaces.new ≡ with_read spaces.old at address tree.old.files number offset count) }
-    ensures failed { OnErr result (ReadsSome spaces.old spaces.new at address tree.old.files number offset count) }
+    requires { MayRead tree.old spaces.old at number address count }
+    ensures { Reads tree.old tree.new spaces.old spaces.new at number offset address count result }
 {
     if count > SHORT as u64 {
         return read_blocks(tree, spaces, at, number, offset, address, count);
@@ -80,13 +69,8 @@ fn read_blocks<D: BlockDev, T: Translate>(
     address: u64,
     count: u64,
 ) -> Result<u64, DeviceFault>
-    requires up { tree.old.failed ≡ false }
-    requires node { (node : Node) × (slot tree.old.files number ≡ Some node) }
-    requires space { has_space spaces.old at ≡ true }
-    requires writable { can_write (view_at spaces.old at).memory address count ≡ true }
-    ensures serves { Serves tree.old tree.new result (IsRead tree.old tree.new number offset count) }
-    ensures written { OnOk result (spaces.new ≡ with_read spaces.old at address tree.old.files number offset count) }
-    ensures failed { OnErr result (ReadsSome spaces.old spaces.new at address tree.old.files number offset count) }
+    requires { MayRead tree.old spaces.old at number address count }
+    ensures { Reads tree.old tree.new spaces.old spaces.new at number offset address count result }
 {
     spaces.pages_are_whole(at);
     let mut buffer = [0; BLOCK_SIZE];

@@ -1,6 +1,6 @@
-use Rattle.std.proofs.Common.{arith}
-use Rattle.file_transfers.proofs.Pieces.{next-low, read-all, read-more, read-none, read-short, read-writes, size-fits}
-use Rattle.file_transfers.proofs.Pieces.{size-whole}
+use Rattle.std.proofs.Common.{arith, rules}
+use Rattle.file_transfers.proofs.Pieces.{next-low, read-end, read-more, read-none, read-short, read-writes, reads-all}
+use Rattle.file_transfers.proofs.Pieces.{size-fits, size-whole, space-read}
 use Rattle.file_transfers.proofs.reading.read_blocks.Goals as goal
 
 pub loop-done-init : goal.loop-done-init
@@ -23,19 +23,30 @@ overflow_add-address g c =
           c.requires.writable c.loop-done-test.true,
     )
 
-pub read_piece-requires-clause-writable : goal.read_piece-requires-clause-writable
-read_piece-requires-clause-writable g c =
-    read-writes c.loop-done.invariant c.requires.space c.pages_are_whole.ensures.sized c.requires.writable _
-    (size-fits _ _ _ _ c.loop-done-test.true c.min-size.ensures)
+pub read_piece-requires : goal.read_piece-requires
+read_piece-requires g c = record {
+  up = search rules;
+  node = search rules;
+  space = space-read c.loop-done.invariant c.requires.space;
+  writable = read-writes c.loop-done.invariant c.requires.space c.pages_are_whole.ensures.sized c.requires.writable _
+      (size-fits _ _ _ _ c.loop-done-test.true c.min-size.ensures);
+}
 
-pub returns-then-got-size-clause-written : goal.returns-then-got-size-clause-written
-returns-then-got-size-clause-written g c =
+pub returns-in_err-got : goal.returns-in_err-got
+returns-in_err-got g c = record { serves = search rules; written = search rules; failed = search rules }
+
+pub returns-then-got-size : goal.returns-then-got-size
+returns-then-got-size g c =
     let fits = size-fits _ _ _ _ c.loop-done-test.true c.min-size.ensures in
     let piece = c.in_ok-got.ensures in
     let long = size-whole _ _ _ c.min-size.array_long c.min-size.ensures in
-    (read-all (read-more c.loop-done.invariant fits piece.serves.told c.requires.space c.pages_are_whole.ensures.sized
-    piece.serves.cause.later piece.written)
-    (read-short c.loop-done.invariant fits piece.serves.told (omega (arith, c.if-got-size.true, long)))).1
+    reads-all (read-more c.loop-done.invariant fits piece.serves.told c.requires.space
+    c.pages_are_whole.ensures.sized piece.serves.cause.later piece.written) c.requires.up
+    (read-short c.loop-done.invariant fits piece.serves.told (omega (arith, c.if-got-size.true, long)))
+
+pub returns : goal.returns
+returns g c =
+    reads-all c.loop-done.invariant c.requires.up (read-end c.loop-done.invariant c.loop-done-test.false)
 
 pub loop-done-preserved : goal.loop-done-preserved
 loop-done-preserved g c =
