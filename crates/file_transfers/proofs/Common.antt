@@ -1,8 +1,8 @@
 -- The names from elsewhere that the lemmas of this crate import, in one file. Declares nothing.
 pub use Rattle.std.proofs.Common.{◌%◌, ◌*◌, ◌+◌, ◌++◌, ◌-◌, ◌/◌, ◌<◌, [], ◌^◌, ap, append-nil, append_assoc, arith}
 pub use Rattle.std.proofs.Common.{Bool, drop, Err, false, inl, inr, is_some, length, List, map, min, None, Ok, Option}
-pub use Rattle.std.proofs.Common.{refl, replicate, Result, rules, slice_set, Some, subst, suc, sym, take, true, unwrap_or}
-pub use Rattle.std.proofs.Common.{zero, ℕ, ◌∙◌, ◌∷◌, ◌≡◌, ◌≤◌, ◌⊎◌}
+pub use Rattle.std.proofs.Common.{refl, replicate, Result, rules, slice_set, Some, subst, suc, sym, take, true}
+pub use Rattle.std.proofs.Common.{unwrap_or, zero, ℕ, ◌∙◌, ◌∷◌, ◌≡◌, ◌≤◌, ◌⊎◌}
 pub use Rattle.std.proofs.Math.Seq.{drop-append-add, take-add, take-append-add}
 pub use Rattle.std.proofs.lemmas.Bool.{and_from, and_left, and_right, cases_Bool, cases_eq, cases_lt, cond-false}
 pub use Rattle.std.proofs.lemmas.Bool.{cond-true, false≢true, le-leb, leb-false, leb-true, lt-leb}

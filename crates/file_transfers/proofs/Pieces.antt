@@ -5,8 +5,8 @@ use Rattle.file_transfers.proofs.Common.{length-append, length-drop, length-take
 use Rattle.file_transfers.proofs.Common.{can_write, reach, IsSized, write-none, ◌^◌, min, Ok, Err, Option, Result}
 use Rattle.file_transfers.proofs.Common.{replicate, slice_set, OnErr, take-add, length-replicate, set-get_or, set-set}
 use Rattle.file_transfers.proofs.Common.{take_min, SpaceView, Spaces, has_space, view_at, no_pages, with_view, IsRead}
-use Rattle.file_transfers.proofs.Common.{Reads, ReadsSome, bytes_of, bytes_read, FileTree, Files, Node, node_bytes, slot}
-use Rattle.file_transfers.proofs.Common.{false, get_or-set_same, reach-page}
+use Rattle.file_transfers.proofs.Common.{Reads, ReadsSome, bytes_of, bytes_read, FileTree, Files, Node, node_bytes}
+use Rattle.file_transfers.proofs.Common.{false, get_or-set_same, reach-page, slot}
 use Rattle.file_transfers.proofs.Fits.{serves-told}
 use Rattle.file_transfers.proofs.Memory.{writes-rest, written-twice}
 use Rattle.blockdev.specs.Splice.{part}

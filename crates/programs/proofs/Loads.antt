@@ -129,6 +129,11 @@ module _ {old mid : FileTree} (s : Spaces) (at number place end : ℕ) (kept : I
 
 -- ---- all of them
 
+-- a file has each of its program headers
+header-fits : (place : ℕ) {count len i : ℕ} → is_within place (56 * count) len ≡ true → i < count
+    → place + 56 * i + 56 ≤ len
+header-fits place fits more = grind (arith, nat_tests, fits, more)
+
 -- the program headers so far are loaded
 pub record IsLoading (old now : FileTree) (before after : Spaces) (at number count place i end : ℕ) : Type 0 where
   pub loads : HasLoaded old now (file_at old.files number) count place i end
@@ -189,6 +194,11 @@ module _ {old now : FileTree} {before after : Spaces} {at number count place i e
         let here = same-loaded (ap (λ (h : SpaceView). h.memory) held-now) (sym has.loads.ends) in
         rw (kept-file has.loads.kept number, is)
         (ap (λ l. load_segment file l (segment_at file (place + 56 * i))) here ∙ then-next.loads)
+
+    pub within-now : {p : ℕ} → p ≡ place + 56 * i → p + 56 ≤ length (file_at now.files number)
+    within-now is =
+        let same = ap length (kept-file has.loads.kept number) in
+        omega (arith, header-fits place fits more, is, same)
 
     pub next-now : {p : ℕ} → p ≡ place + 56 * i
         → (next : Loaded) × (next_in (file_at now.files number) p (view_at after at) end ≡ Some next)

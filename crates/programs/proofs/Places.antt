@@ -96,6 +96,12 @@ module _ {old now : FileTree} {before after : Spaces} {at number offset address 
   filled-all over = (read-all has (read-end has over)).1
       ∙ ap (with_bytes before at address) (file-read old.files number offset count)
 
+  pub filled-within : is_within offset count (length (file_at old.files number)) ≡ true → done < count → (l : ℕ)
+      → done + l ≤ count → offset + done + l ≤ length (file_at now.files number)
+  filled-within within more l fits =
+      let same = ap (λ (t : FileTree). length (file_at t.files number)) has.same in
+      omega (arith, piece-within offset l within more fits, same)
+
   module _ (space : has_space before at ≡ true) where
     pub filled-inside : (l : ℕ) → address + count ≤ 4096 * length (view_at before at).memory → done + l ≤ count
         → address + done + l ≤ 4096 * length (view_at after at).memory

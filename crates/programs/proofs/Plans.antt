@@ -58,8 +58,9 @@ module _ {old mid : FileTree} {number : ℕ} {stat : InodeStat} (file : IsFile o
       ∙ ap (λ o. length (bytes_or_none o)) (sym file.here) ∙ ap length (sym (kept-file stat-kept _))
 
   module _ {program : Program} (is : IsProgram (file_at old.files number) program) where
-    pub header-still : is_within program.header.program_headers (56 * program.header.count) stat.size ≡ true
-    header-still = rw (stat-long, kept-file stat-kept number) is.within
+    pub header-still : is_within program.header.program_headers (56 * program.header.count)
+        (length (file_at mid.files number)) ≡ true
+    header-still = rw (kept-file stat-kept number) is.within
 
     loads-still : load_segments (file_at mid.files number) program.header.count program.header.program_headers
         nothing_loaded ≡ Some is.loaded

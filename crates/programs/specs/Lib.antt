@@ -1,4 +1,5 @@
 pub mod Executed
 pub mod Headed
+pub mod Loadable
 pub mod Passed
 pub mod Placed

@@ -1,18 +1,15 @@
 //! How a program is loaded into the memory of a slot.
 
-ghost use Rattle.std.specs.Prelude.{◌≡◌, ◌*◌, ◌+◌, ◌<◌, ◌≤◌, ◌^◌, IfOk, OnErr, OnOk, Some, length, replicate, false};
-ghost use Rattle.std.specs.Prelude.{true};
-ghost use Rattle.elf.specs.Headers.{is_within};
-ghost use Rattle.programs.specs.Headed.{file_of, loaded_by, part_of, program_in};
+ghost use Rattle.std.specs.Prelude.{◌≡◌, ◌*◌, ◌+◌, ◌<◌, ◌≤◌, ◌^◌, IfOk, OnErr, OnOk, length, replicate, true};
+ghost use Rattle.programs.specs.Headed.{file_of, loaded_by};
+ghost use Rattle.programs.specs.Loadable.{HoldsSome, IsReady, MayFill, MayFollow, MayLoadAll, MayLoadNext, MayReplace};
+ghost use Rattle.programs.specs.Loadable.{ReachesTo, with_part};
 ghost use Rattle.programs.specs.Passed.{stacked};
-ghost use Rattle.programs.specs.Placed.{Follows, HasRoom, IsPaged, Leaves, Loads, LoadsSegment, LoadsTo};
-ghost use Rattle.programs.specs.Placed.{LoadsWithStack, MayLoad, next_in, with_more, with_paged};
-ghost use Rattle.spaces.specs.Spaces.{SpaceView, has_space, view_at, no_pages, with_view};
-ghost use Rattle.file_transfers.specs.Moved.{with_bytes};
+ghost use Rattle.programs.specs.Placed.{HasRoom, IsPaged, Leaves, Loads, LoadsSegment, LoadsTo, LoadsWithStack};
+ghost use Rattle.programs.specs.Placed.{next_in, with_more, with_paged};
+ghost use Rattle.spaces.specs.Spaces.{has_space, view_at, no_pages, with_view};
 ghost use Rattle.tree.specs.Tree.{Serves};
-ghost use Rattle.tree.specs.Written.{IsFile};
 ghost use Rattle.unixmodel.specs.Memory.{zero_page};
-ghost use Rattle.unixmodel.specs.Numbers.{ceil_div};
 ghost use Rattle.unixmodel.specs.Plan.{loaded_of};
 ghost use Rattle.vm.specs.Leaf.{marks_from};
 
@@ -71,14 +68,12 @@ fn fill_piece<D: BlockDev, T: Translate>(
     address: u64,
     buffer: &mut [u8],
 ) -> Result<(), DeviceFault>
-    requires up { tree.old.failed ≡ false }
-    requires file { IsFile tree.old.files number }
+    requires ready { IsReady tree.old spaces.old at number }
     requires within { offset + length buffer.old ≤ length (file_of tree.old number) }
-    requires space { has_space spaces.old at ≡ true }
-    requires inside { address + length buffer.old ≤ 4096 * length (view_at spaces.old at).memory }
+    requires inside { ReachesTo spaces.old at (address + length buffer.old) }
     ensures serves { Serves tree.old tree.new result (Leaves tree.old tree.new) }
     ensures filled { OnOk result
-        (spaces.new ≡ with_bytes spaces.old at address (part_of tree.old number offset (length buffer.old))) }
+        (spaces.new ≡ with_part spaces.old at address tree.old number offset (length buffer.old)) }
     ensures failed { OnErr result (spaces.new ≡ spaces.old) }
 {
     read_part(tree, number, offset, buffer)?;
@@ -96,16 +91,11 @@ fn fill_node<D: BlockDev, T: Translate>(
     address: u64,
     count: u64,
 ) -> Result<(), DeviceFault>
-    requires up { tree.old.failed ≡ false }
-    requires file { IsFile tree.old.files number }
-    requires within { is_within offset count (length (file_of tree.old number)) ≡ true }
-    requires long { length (file_of tree.old number) < 2 ^ 32 }
-    requires space { has_space spaces.old at ≡ true }
-    requires inside { address + count ≤ 4096 * length (view_at spaces.old at).memory }
+    requires ready { IsReady tree.old spaces.old at number }
+    requires fits { MayFill tree.old spaces.old at number offset address count }
     ensures serves { Serves tree.old tree.new result (Leaves tree.old tree.new) }
-    ensures filled { OnOk result
-        (spaces.new ≡ with_bytes spaces.old at address (part_of tree.old number offset count)) }
-    ensures failed { OnErr result ((held : SpaceView) × (spaces.new ≡ with_view spaces.old at held)) }
+    ensures filled { OnOk result (spaces.new ≡ with_part spaces.old at address tree.old number offset count) }
+    ensures failed { OnErr result (HoldsSome spaces.old spaces.new at) }
 {
     spaces.pages_are_whole(at);
     let mut buffer = [0; BLOCK_SIZE];
@@ -128,17 +118,12 @@ fn load_segment<D: BlockDev, T: Translate>(
     number: usize,
     segment: LoadSegment,
 ) -> Result<(), DeviceFault>
-    requires up { tree.old.failed ≡ false }
-    requires file { IsFile tree.old.files number }
-    requires space { has_space spaces.old at ≡ true }
-    requires paged { IsPaged (view_at spaces.old at) }
+    requires ready { IsReady tree.old spaces.old at number }
     requires long { length (file_of tree.old number) < 2 ^ 32 }
-    requires follows { Follows (length (file_of tree.old number)) (length (view_at spaces.old at).memory) segment }
-    requires few { ceil_div (segment.address + segment.size) 4096 < 2 ^ 32 }
-    requires room { HasRoom spaces.old at (ceil_div (segment.address + segment.size) 4096) }
+    requires next { MayFollow spaces.old at (length (file_of tree.old number)) segment }
     ensures serves { Serves tree.old tree.new result (Leaves tree.old tree.new) }
     ensures loaded { OnOk result (LoadsSegment (file_of tree.old number) spaces.old spaces.new at segment) }
-    ensures failed { OnErr result ((held : SpaceView) × (spaces.new ≡ with_view spaces.old at held)) }
+    ensures failed { OnErr result (HoldsSome spaces.old spaces.new at) }
 {
     let LoadSegment {
         offset,
@@ -168,18 +153,13 @@ fn load_next<D: BlockDev, T: Translate>(
     end: u64,
     len: u32,
 ) -> Result<u64, DeviceFault>
-    requires up { tree.old.failed ≡ false }
-    requires file { IsFile tree.old.files number }
+    requires ready { IsReady tree.old spaces.old at number }
     requires long { len ≡ length (file_of tree.old number) }
-    requires within { place + 56 ≤ len }
-    requires space { has_space spaces.old at ≡ true }
-    requires paged { IsPaged (view_at spaces.old at) }
-    requires whole { length (view_at spaces.old at).memory ≡ ceil_div end 4096 }
-    requires next { MayLoad spaces.old at (next_in (file_of tree.old number) place (view_at spaces.old at) end) }
+    requires next { MayLoadNext (file_of tree.old number) spaces.old at place end }
     ensures serves { Serves tree.old tree.new result (Leaves tree.old tree.new) }
     ensures loaded { IfOk result
         (LoadsTo spaces.old spaces.new at (next_in (file_of tree.old number) place (view_at spaces.old at) end)) }
-    ensures failed { OnErr result ((held : SpaceView) × (spaces.new ≡ with_view spaces.old at held)) }
+    ensures failed { OnErr result (HoldsSome spaces.old spaces.new at) }
 {
     match read_segment(tree, number, place, end, len)?.unwrap() {
         Some(segment) => {
@@ -199,16 +179,12 @@ fn load_segments<D: BlockDev, T: Translate>(
     header: FileHeader,
     len: u32,
 ) -> Result<(), DeviceFault>
-    requires up { tree.old.failed ≡ false }
-    requires file { IsFile tree.old.files number }
+    requires ready { IsReady tree.old spaces.old at number }
     requires long { len ≡ length (file_of tree.old number) }
-    requires within { is_within header.program_headers (56 * header.count) len ≡ true }
-    requires space { has_space spaces.old at ≡ true }
-    requires empty { view_at spaces.old at ≡ no_pages }
-    requires last { MayLoad spaces.old at (loaded_by (file_of tree.old number) header) }
+    requires all { MayLoadAll (file_of tree.old number) spaces.old at header }
     ensures serves { Serves tree.old tree.new result (Leaves tree.old tree.new) }
     ensures loaded { OnOk result (Loads spaces.old spaces.new at (loaded_by (file_of tree.old number) header)) }
-    ensures failed { OnErr result ((held : SpaceView) × (spaces.new ≡ with_view spaces.old at held)) }
+    ensures failed { OnErr result (HoldsSome spaces.old spaces.new at) }
 {
     let mut end = 0;
     for i in 0..header.count {
@@ -241,16 +217,11 @@ pub fn load<D: BlockDev, T: Translate>(
     program: &Program,
     arguments: &Arguments,
 ) -> Result<(), DeviceFault>
-    requires up { tree.old.failed ≡ false }
-    requires file { IsFile tree.old.files number }
-    requires program { program_in (file_of tree.old number) ≡ Some program.now }
-    requires few { program.now.pages < 2 ^ 32 }
-    requires space { has_space spaces.old at ≡ true }
-    requires room { HasRoom spaces.old at (program.now.pages + 2) }
+    requires { MayReplace tree.old spaces.old at number program.now }
     ensures serves { Serves tree.old tree.new result (Leaves tree.old tree.new) }
     ensures loaded { OnOk result
         (LoadsWithStack spaces.old spaces.new at (loaded_of (file_of tree.old number)) arguments.now.page) }
-    ensures failed { OnErr result ((held : SpaceView) × (spaces.new ≡ with_view spaces.old at held)) }
+    ensures failed { OnErr result (HoldsSome spaces.old spaces.new at) }
 {
     clear(spaces, at);
     let len = tree.stat(number)?.size;

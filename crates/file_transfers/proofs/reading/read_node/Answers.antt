@@ -1,4 +1,5 @@
-use Rattle.file_transfers.proofs.Common.{rules, ◌≡◌, Ok, subst, sym, true, IsRead, with_read, Serves, view_at, can_write}
+use Rattle.file_transfers.proofs.Common.{◌≡◌, Ok, rules, subst, sym, true, IsRead, with_read, Serves}
+use Rattle.file_transfers.proofs.Common.{can_write, view_at}
 use Rattle.file_transfers.proofs.Pieces.{front-long, none-read}
 use Rattle.file_transfers.proofs.reading.read_node.Goals as goal
 

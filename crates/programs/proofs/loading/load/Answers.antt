@@ -8,14 +8,18 @@ pub load_segments-requires : goal.load_segments-requires
 load_segments-requires g c =
     let is = is-program _ _ c.requires.program in
     record {
-      up = c.in_ok-len.ensures.up;
-      file = kept-is-file (stat-kept c.requires.file c.in_ok-len.ensures) c.requires.file;
+      ready = record {
+        up = c.in_ok-len.ensures.up;
+        file = kept-is-file (stat-kept c.requires.file c.in_ok-len.ensures) c.requires.file;
+        space = has-held _ _ _ c.clear.ensures c.requires.space;
+      };
       long = stat-long c.requires.file c.in_ok-len.ensures;
-      within = header-still c.requires.file c.in_ok-len.ensures is;
-      space = has-held _ _ _ c.clear.ensures c.requires.space;
-      empty = is-held _ _ c.clear.ensures c.requires.space;
-      last = last-still c.requires.file c.in_ok-len.ensures is c.args.spaces.now c.args.at c.clear.ensures
-          c.requires.few c.requires.room;
+      all = record {
+        within = header-still c.requires.file c.in_ok-len.ensures is;
+        empty = is-held _ _ c.clear.ensures c.requires.space;
+        last = last-still c.requires.file c.in_ok-len.ensures is c.args.spaces.now c.args.at c.clear.ensures
+            c.requires.few c.requires.room;
+      };
     }
 
 pub returns-in_err-load_segments : goal.returns-in_err-load_segments
