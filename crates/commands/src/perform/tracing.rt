@@ -53,7 +53,7 @@ impl<'a> Sheet<'a> {
         done
     }
 
-    // Puts bytes after the others; whether so many wait now that they are to be written.
+    // Puts bytes after the others; whether enough wait now to be written.
     fn keep(&mut self, bytes: &[u8]) -> Result<bool, AllocError> {
         self.waiting.extend_from_slice(bytes)?;
         Ok(self.waiting.len() >= MOST_WAITING)
