@@ -81,6 +81,13 @@ abbrev pub TellsSubdirectories : List ℕ → List ℕ → Type 0
 TellsSubdirectories image counts = (d : ℕ) → d < length counts
     → slice_index_or counts d 0 ≡ subdirectories (files_in image) d
 
+-- tables of all numbers: how many entries name each, and how many entries of each name directories
+pub record HasCounts (image : List ℕ) (g : Geometry) (naming within : List ℕ) : Type 0 where
+  pub names_long : length naming ≡ g.inodes
+  pub names : TellsNames image naming
+  pub subdirectories_long : length within ≡ g.inodes
+  pub subdirectories : TellsSubdirectories image within
+
 -- a count of links that an inode of a type may have
 pub record FitsLinks (kind links names subdirectories : ℕ) : Type 0 where
   pub directory : kind ≡ 1 → links ≡ 1 + subdirectories

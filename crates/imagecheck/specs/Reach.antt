@@ -3,11 +3,22 @@ use Rattle.std.specs.Prelude.{List, slice_index, suc, zero, ℕ, ◌+◌, ◌<�
 use Rattle.unixmodel.specs.Files.{Files}
 use Rattle.unixmodel.specs.Image.{inode_at, inodes_in, kind_in, parent_of}
 use Rattle.unixmodel.specs.Numbers.{number_at}
+use Rattle.layout.specs.declared.Geometry.{Geometry}
+use Rattle.imagerules.specs.Fields.{HasGeometry}
+use Rattle.imagerules.specs.Places.{HasEntries, HasLinks, files_in}
+use Rattle.imagerules.specs.Rules.{BlockRules}
 
 -- the parent of a parent and so on, n steps
 abbrev pub ancestor : Files → ℕ → ℕ → ℕ
 ancestor files zero n = n
 ancestor files (suc k) n = ancestor files k (parent_of files n)
+
+-- the image has these numbers, and its blocks, entries and counts of links are sound
+pub record HasSoundLinks (image : List ℕ) (g : Geometry) : Type 0 where
+  pub geometry : HasGeometry image g
+  pub blocks : BlockRules image
+  pub entries : HasEntries (files_in image)
+  pub links : HasLinks (files_in image)
 
 -- the chain of parents reaches the root
 pub record Climbs (files : Files) (n : ℕ) : Type 0 where

@@ -5,7 +5,7 @@ ghost use Rattle.imagecheck.specs.Entries.{NamesDirectories};
 ghost use Rattle.imagecheck.specs.Faults.{Finds, IsOfImage};
 ghost use Rattle.imagerules.specs.Rules.{BlockRules, HasFiles};
 ghost use Rattle.imagerules.specs.Fields.{HasGeometry};
-ghost use Rattle.imagecheck.specs.Namings.{HasParents, IsListed, TellsNames, TellsSubdirectories};
+ghost use Rattle.imagecheck.specs.Namings.{HasCounts, HasParents, IsListed, TellsNames};
 ghost use Rattle.imagerules.specs.Places.{HasEntries, HasLinks, files_in};
 ghost use Rattle.imagecheck.specs.declared.namings.Naming.{Naming};
 
@@ -55,10 +55,7 @@ fn test_links(
     requires geometry { HasGeometry image.now geometry }
     requires blocks { BlockRules image.now }
     requires entries { HasEntries (files_in image.now) }
-    requires counts_long { length counts.now ≡ geometry.inodes }
-    requires counts { TellsNames image.now counts.now }
-    requires subdirectories_long { length subdirectories.now ≡ geometry.inodes }
-    requires subdirectories { TellsSubdirectories image.now subdirectories.now }
+    requires counts { HasCounts image.now geometry counts.now subdirectories.now }
     ensures judged { MatchResult result (λ _. HasLinks (files_in image.now)) (Finds image.now) }
     ensures own { IfErr result IsOfImage }
 {

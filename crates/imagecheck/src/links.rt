@@ -1,10 +1,10 @@
 //! The counts of links.
 
-ghost use Rattle.std.specs.Prelude.{◌↔◌, IsTrue, ◌≡◌, ◌<◌, length};
+ghost use Rattle.std.specs.Prelude.{◌↔◌, IsTrue};
 ghost use Rattle.imagerules.specs.Rules.{BlockRules};
 ghost use Rattle.imagerules.specs.Fields.{HasGeometry};
 ghost use Rattle.layout.specs.Kinds.{kind_number};
-ghost use Rattle.imagecheck.specs.Namings.{FitsLinks, TellsNames, TellsSubdirectories};
+ghost use Rattle.imagecheck.specs.Namings.{FitsLinks, HasCounts};
 ghost use Rattle.imagerules.specs.Places.{HasLinks, files_in};
 
 use crate::fields::{kind, links};
@@ -31,10 +31,7 @@ pub fn has_links(
 ) -> bool
     requires geometry { HasGeometry image.now geometry }
     requires blocks { BlockRules image.now }
-    requires names_long { length names.now ≡ geometry.inodes }
-    requires names { TellsNames image.now names.now }
-    requires subdirectories_long { length subdirectories.now ≡ geometry.inodes }
-    requires subdirectories { TellsSubdirectories image.now subdirectories.now }
+    requires counts { HasCounts image.now geometry names.now subdirectories.now }
     ensures { IsTrue result ↔ HasLinks (files_in image.now) }
 {
     for n in 1..geometry.inodes {

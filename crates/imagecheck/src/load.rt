@@ -1,8 +1,8 @@
 //! Reading an image from its device.
 
 ghost use Rattle.std.specs.Prelude.{◌≡◌, ◌≤◌, length, IfOk, IfErr, IsErrOf};
-ghost use Rattle.unixmodel.specs.Failures.{Rises};
 ghost use Rattle.imagerules.specs.Content.{image_of};
+ghost use Rattle.imagecheck.specs.Checks.{OnlyReads};
 ghost use Rattle.imagecheck.specs.Faults.{IsOfImage, IsOutside, OfFront, TellsGeometry};
 ghost use Rattle.layout.specs.Formats.{format_named};
 
@@ -37,10 +37,7 @@ pub fn geometry_in(format: Format, block: &Block, count: usize) -> Result<Geomet
 pub fn read_geometry<D: BlockDev>(format: Format, device: &mut D) -> Result<Geometry, ImageFault>
     ensures judged { TellsGeometry (format_named format) (image_of (D.content device.old)) result }
     ensures memory { IsErrOf result ImageFault.NoMemory → ⊥ }
-    ensures same { D.content device.new ≡ D.content device.old }
-    ensures identity { D.identity device.new ≡ D.identity device.old }
-    ensures later { D.failures device.old ≤ D.failures device.new }
-    ensures failed { IsErrOf result ImageFault.Device → Rises (D.failures device.old) (D.failures device.new) }
+    ensures reads { OnlyReads D.content D.identity D.failures device.old device.new result }
 {
     let count = device.blocks();
     if count < 2 {
@@ -60,10 +57,7 @@ pub fn read_blocks<A: Allocator, D: BlockDev>(
     requires most { count ≤ 131072 }
     ensures bytes { IfOk result (λ image. image.items ≡ image_of (D.content device.old)) }
     ensures only { IfErr result IsOutside }
-    ensures same { D.content device.new ≡ D.content device.old }
-    ensures identity { D.identity device.new ≡ D.identity device.old }
-    ensures later { D.failures device.old ≤ D.failures device.new }
-    ensures failed { IsErrOf result ImageFault.Device → Rises (D.failures device.old) (D.failures device.new) }
+    ensures reads { OnlyReads D.content D.identity D.failures device.old device.new result }
 {
     let mut image = Vec::with_capacity(alloc, BLOCK_SIZE * count)?;
     for n in 0..count {

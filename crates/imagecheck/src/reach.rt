@@ -3,10 +3,8 @@
 ghost use Rattle.std.specs.Prelude.{◌≡◌, ◌+◌, ◌<◌, length, IfErr, MatchBool, MatchResult};
 ghost use Rattle.unixmodel.specs.Image.{parent_of};
 ghost use Rattle.imagecheck.specs.Faults.{Finds, IsOfImage};
-ghost use Rattle.imagerules.specs.Rules.{BlockRules};
-ghost use Rattle.imagerules.specs.Fields.{HasGeometry};
-ghost use Rattle.imagerules.specs.Places.{HasEntries, HasLinks, IsReached, files_in};
-ghost use Rattle.imagecheck.specs.Reach.{HasClimbed, HasWalked, IsDirectoryIn};
+ghost use Rattle.imagerules.specs.Places.{IsReached, files_in};
+ghost use Rattle.imagecheck.specs.Reach.{HasClimbed, HasSoundLinks, HasWalked, IsDirectoryIn};
 
 use crate::ImageFault;
 use crate::contents::front_place;
@@ -16,10 +14,7 @@ use std::alloc::Allocator;
 
 // The directory that a directory's ".." names.
 fn parent(image: &[u8], geometry: Geometry, n: usize) -> usize
-    requires geometry { HasGeometry image.now geometry }
-    requires blocks { BlockRules image.now }
-    requires entries { HasEntries (files_in image.now) }
-    requires links { HasLinks (files_in image.now) }
+    requires sound { HasSoundLinks image.now geometry }
     requires directory { IsDirectoryIn image.now n }
     ensures parent { result ≡ parent_of (files_in image.now) n }
     ensures directory { IsDirectoryIn image.now result }
@@ -30,10 +25,7 @@ fn parent(image: &[u8], geometry: Geometry, n: usize) -> usize
 // Goes from a directory up to the first that has a mark, and marks those on the way with the start's number. Returns
 // whether it reached one that an earlier walk met, and not one of its own.
 fn climb(image: &[u8], geometry: Geometry, start: usize, marks: &mut [u16]) -> bool
-    requires geometry { HasGeometry image.now geometry }
-    requires blocks { BlockRules image.now }
-    requires entries { HasEntries (files_in image.now) }
-    requires links { HasLinks (files_in image.now) }
+    requires sound { HasSoundLinks image.now geometry }
     requires directory { IsDirectoryIn image.now start }
     requires above { 1 < start }
     requires long { length marks.old ≡ geometry.inodes }
@@ -50,10 +42,7 @@ fn climb(image: &[u8], geometry: Geometry, start: usize, marks: &mut [u16]) -> b
 
 // Climbs from each directory. Each is met once, by the first walk that reaches it.
 fn test_climbs(image: &[u8], geometry: Geometry, marks: &mut [u16]) -> Result<(), ImageFault>
-    requires geometry { HasGeometry image.now geometry }
-    requires blocks { BlockRules image.now }
-    requires entries { HasEntries (files_in image.now) }
-    requires links { HasLinks (files_in image.now) }
+    requires sound { HasSoundLinks image.now geometry }
     requires long { length marks.old ≡ geometry.inodes }
     requires walked { HasWalked (files_in image.now) 2 marks.old }
     ensures judged { MatchResult result (λ _. IsReached (files_in image.now)) (Finds image.now) }
@@ -73,10 +62,7 @@ pub fn test_reach<A: Allocator>(
     image: &[u8],
     geometry: Geometry,
 ) -> Result<(), ImageFault>
-    requires geometry { HasGeometry image.now geometry }
-    requires blocks { BlockRules image.now }
-    requires entries { HasEntries (files_in image.now) }
-    requires links { HasLinks (files_in image.now) }
+    requires { HasSoundLinks image.now geometry }
     ensures { MatchResult result (λ _. IsReached (files_in image.now)) (Finds image.now) }
 {
     let mut marks = vec![in alloc; 0; geometry.inodes]?;

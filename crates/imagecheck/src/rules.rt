@@ -1,17 +1,14 @@
 //! The rules of an image, one after the other.
 
-ghost use Rattle.std.specs.Prelude.{◌≡◌, ◌≤◌, [], length, IfOk, IfErr, IsErrOf, MatchResult, OnOk};
-ghost use Rattle.unixmodel.specs.Failures.{Rises};
+ghost use Rattle.std.specs.Prelude.{◌≡◌, [], length, IfErr, MatchResult};
 ghost use Rattle.unixmodel.specs.Formats.{format, small};
-ghost use Rattle.unixmodel.specs.Image.{Denotes, DenotesIn, DenotesSmall, named_blocks, numbers_in_use};
 ghost use Rattle.layout.specs.Formats.{format_named};
-ghost use Rattle.imagerules.specs.Content.{image_of};
-ghost use Rattle.imagecheck.specs.Faults.{Denies, DenotesOwn, Finds, IsOfImage, Tells};
+ghost use Rattle.imagecheck.specs.Checks.{Checks};
+ghost use Rattle.imagecheck.specs.Faults.{Finds, IsOfImage};
 ghost use Rattle.imagerules.specs.Rules.{BlockRules, HasInodes};
 ghost use Rattle.imagerules.specs.Fields.{HasGeometry};
 ghost use Rattle.imagerules.specs.Marks.{HasMarks};
 ghost use Rattle.imagerules.specs.Pieces.{HasAddresses};
-ghost use Rattle.imagerules.specs.Places.{files_in};
 ghost use Rattle.imagecheck.specs.Summaries.{IsSummary};
 
 use crate::ImageFault;
@@ -105,16 +102,7 @@ fn check_in<A: Allocator, D: BlockDev>(
     device: &mut D,
     format: Format,
 ) -> Result<Summary, ImageFault>
-    ensures denotes { OnOk result (DenotesOwn (format_named format) (image_of (D.content device.old))) }
-    ensures inodes { IfOk result
-        (λ summary. summary.inodes ≡ length (numbers_in_use (image_of (D.content device.old)))) }
-    ensures blocks { IfOk result (λ summary. summary.blocks ≡ length (named_blocks (image_of (D.content device.old)))) }
-    ensures fault { IfErr result (λ fault. Tells (format_named format) (image_of (D.content device.old)) fault) }
-    ensures refused { IfErr result (Denies (DenotesIn (format_named format) (image_of (D.content device.old)))) }
-    ensures same { D.content device.new ≡ D.content device.old }
-    ensures identity { D.identity device.new ≡ D.identity device.old }
-    ensures later { D.failures device.old ≤ D.failures device.new }
-    ensures failed { IsErrOf result ImageFault.Device → Rises (D.failures device.old) (D.failures device.new) }
+    ensures { Checks (format_named format) D.content D.identity D.failures device.old device.new result }
 {
     if let Some(image) = device.as_bytes() {
         return check_bytes(alloc, format, image);
@@ -131,17 +119,7 @@ fn check_in<A: Allocator, D: BlockDev>(
 /// The fault is that of the first rule that the image breaks, in the order of `ImageFault`. An image that has
 /// one denotes no files.
 pub fn check<A: Allocator, D: BlockDev>(alloc: A, device: &mut D) -> Result<Summary, ImageFault>
-    ensures denotes { OnOk result
-        (Denotes (image_of (D.content device.old)) (files_in (image_of (D.content device.old)))) }
-    ensures inodes { IfOk result
-        (λ summary. summary.inodes ≡ length (numbers_in_use (image_of (D.content device.old)))) }
-    ensures blocks { IfOk result (λ summary. summary.blocks ≡ length (named_blocks (image_of (D.content device.old)))) }
-    ensures fault { IfErr result (λ fault. Tells format (image_of (D.content device.old)) fault) }
-    ensures refused { IfErr result (Denies (Denotes (image_of (D.content device.old)))) }
-    ensures same { D.content device.new ≡ D.content device.old }
-    ensures identity { D.identity device.new ≡ D.identity device.old }
-    ensures later { D.failures device.old ≤ D.failures device.new }
-    ensures failed { IsErrOf result ImageFault.Device → Rises (D.failures device.old) (D.failures device.new) }
+    ensures { Checks format D.content D.identity D.failures device.old device.new result }
 {
     check_in(alloc, device, CURRENT)
 }
@@ -149,17 +127,7 @@ pub fn check<A: Allocator, D: BlockDev>(alloc: A, device: &mut D) -> Result<Summ
 /// Tests that an image in the small format denotes files, by the rules of `check` and in their order. An
 /// image of another format has the fault `Magic`.
 pub fn check1<A: Allocator, D: BlockDev>(alloc: A, device: &mut D) -> Result<Summary, ImageFault>
-    ensures denotes { OnOk result
-        (DenotesSmall (image_of (D.content device.old)) (files_in (image_of (D.content device.old)))) }
-    ensures inodes { IfOk result
-        (λ summary. summary.inodes ≡ length (numbers_in_use (image_of (D.content device.old)))) }
-    ensures blocks { IfOk result (λ summary. summary.blocks ≡ length (named_blocks (image_of (D.content device.old)))) }
-    ensures fault { IfErr result (λ fault. Tells small (image_of (D.content device.old)) fault) }
-    ensures refused { IfErr result (Denies (DenotesSmall (image_of (D.content device.old)))) }
-    ensures same { D.content device.new ≡ D.content device.old }
-    ensures identity { D.identity device.new ≡ D.identity device.old }
-    ensures later { D.failures device.old ≤ D.failures device.new }
-    ensures failed { IsErrOf result ImageFault.Device → Rises (D.failures device.old) (D.failures device.new) }
+    ensures { Checks small D.content D.identity D.failures device.old device.new result }
 {
     check_in(alloc, device, Format::Small)
 }

@@ -1,5 +1,5 @@
 -- The entries of a manifest as they are put on a disk.
-use Rattle.std.specs.Prelude.{List, None, Ok, Result, Some, false, length, true, ℕ, ◌+◌, ◌≡◌}
+use Rattle.std.specs.Prelude.{IfErr, List, None, Ok, OnOk, Result, Some, [], false, length, true, ℕ, ◌+◌, ◌≡◌, ◌≤◌}
 use Rattle.unixmodel.specs.Files.{Files, split_last}
 use Rattle.unixmodel.specs.Image.{KeepsRules}
 use Rattle.unixmodel.specs.Manifest.{ManifestEntry, Thing, Wrong, bare_files, names_in, with_entries}
@@ -7,7 +7,7 @@ use Rattle.unixmodel.specs.Manifest.{with_manifest_entry}
 use Rattle.tree.specs.Tree.{FileTree, HasFiles}
 use Rattle.imagemake.specs.Added.{Owns}
 use Rattle.imagemake.specs.Begun.{IsBegun, IsListed}
-use Rattle.imagemake.specs.Made.{MadeName, found, is_folder, seek}
+use Rattle.imagemake.specs.Made.{HasRoom, MadeName, Names, found, is_folder, seek}
 use Rattle.imagemake.specs.Making.{Refuses}
 use Rattle.imagemake.specs.declared.manifest.MakeFault.{MakeFault}
 use Rattle.imagemake.specs.declared.manifest.MakeFault.TheVariants as told
@@ -67,6 +67,22 @@ pub record MakesEntries (old new : FileTree) (entries : List ManifestEntry) : Ty
   pub is : made_by old entries ≡ Ok new.files
   pub rest : HasFiles old new new.files
   pub rules : KeepsRules new.files
+
+-- the entries are put among the files, or the fault says why they can't be
+pub record PutsEntries (old new : FileTree) (entries : List ManifestEntry) (result : Result (Unit {0}) MakeFault)
+    : Type 0 where
+  pub made : OnOk result (MakesEntries old new entries)
+  pub refused : IfErr result (Refuses (made_by old entries))
+  pub cause : BlamesDevice old.failures new.failures result
+
+-- entries can be put among files that are none yet or the root alone: no access has failed, there are numbers for them
+-- and a block for the root, no name is made, and there is room for a name of each number
+pub record CanBegin (t : FileTree) (made : Names) : Type 0 where
+  pub up : t.failed ≡ false
+  pub some : 16 ≤ length t.files
+  pub block : 1 ≤ t.block_limit
+  pub empty : made.items ≡ []
+  pub room : HasRoom (length t.files) made
 
 -- the files are those of the first entries, and what the rest makes of them is what all of them make
 pub record IsGoing (old now : FileTree) (made : List MadeName) (entries left : List ManifestEntry) : Type 0 where

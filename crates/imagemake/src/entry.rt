@@ -1,11 +1,11 @@
 //! The entries of a manifest are put among files, one after the other.
 
-ghost use Rattle.std.specs.Prelude.{◌≡◌, ◌≤◌, ◌+◌, ◌<◌, [], false, length, IfOk, IfErr, OnOk};
+ghost use Rattle.std.specs.Prelude.{◌≡◌, ◌<◌, length, IfOk, IfErr, OnOk};
 ghost use Rattle.unixmodel.specs.Manifest.{bare_files};
-ghost use Rattle.imagemake.specs.Begins.{AddsEntry, BlamesDevice, IsMade, IsSpot, MakesEntries, RefusesEntry};
-ghost use Rattle.imagemake.specs.Begins.{RefusesPath, made_by};
+ghost use Rattle.imagemake.specs.Begins.{AddsEntry, BlamesDevice, CanBegin, IsMade, IsSpot, PutsEntries};
+ghost use Rattle.imagemake.specs.Begins.{RefusesEntry, RefusesPath};
 ghost use Rattle.imagemake.specs.Made.{HasRoom, LeadsTo};
-ghost use Rattle.imagemake.specs.Making.{Refuses, entry_at, meaning};
+ghost use Rattle.imagemake.specs.Making.{entry_at, meaning};
 
 use crate::made::{Made, Spot};
 use crate::manifest::{Entry, MakeFault, Thing};
@@ -83,15 +83,9 @@ pub fn add_entries<'a, D: BlockDev>(
     made: &mut Made<'a>,
     entries: &'a [Entry],
 ) -> Result<(), MakeFault>
-    requires up { tree.old.failed ≡ false }
+    requires able { CanBegin tree.old made.old }
     requires root { tree.old.files ≡ bare_files (length tree.old.files) }
-    requires some { 16 ≤ length tree.old.files }
-    requires block { 1 ≤ tree.old.block_limit }
-    requires empty { made.old.items ≡ [] }
-    requires room { HasRoom (length tree.old.files) made.old }
-    ensures made { OnOk result (MakesEntries tree.old tree.new (meaning entries.now)) }
-    ensures refused { IfErr result (λ fault. Refuses (made_by tree.old (meaning entries.now)) fault) }
-    ensures cause { BlamesDevice tree.old.failures tree.new.failures result }
+    ensures { PutsEntries tree.old tree.new (meaning entries.now) result }
 {
     for entry in entries {
         add_entry(tree, made, entry.path.as_slice(), &entry.thing)?;

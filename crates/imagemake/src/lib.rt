@@ -6,9 +6,8 @@ ghost use Rattle.blockdev.specs.Blocks.{blocks_of};
 ghost use Rattle.unixmodel.specs.Files.{free_slots};
 ghost use Rattle.unixmodel.specs.Manifest.{files_made, has_numbers};
 ghost use Rattle.imagemake.specs.Added.{IsBlank, IsPossible};
-ghost use Rattle.imagemake.specs.Begins.{BlamesDevice, MakesEntries, made_by};
+ghost use Rattle.imagemake.specs.Begins.{CanBegin, PutsEntries};
 ghost use Rattle.imagerules.specs.Content.{image_of};
-ghost use Rattle.imagemake.specs.Made.{HasRoom};
 ghost use Rattle.imagemake.specs.Making.{MakesImage, Refuses, meaning};
 
 mod entry;
@@ -93,15 +92,9 @@ fn put_files<'a, D: BlockDev>(
     made: &mut Made<'a>,
     entries: &'a [Entry],
 ) -> Result<(), MakeFault>
-    requires up { tree.old.failed ≡ false }
+    requires able { CanBegin tree.old made.old }
     requires none { tree.old.files ≡ free_slots (length tree.old.files) }
-    requires some { 16 ≤ length tree.old.files }
-    requires block { 1 ≤ tree.old.block_limit }
-    requires empty { made.old.items ≡ [] }
-    requires room { HasRoom (length tree.old.files) made.old }
-    ensures made { OnOk result (MakesEntries tree.old tree.new (meaning entries.now)) }
-    ensures refused { IfErr result (λ fault. Refuses (made_by tree.old (meaning entries.now)) fault) }
-    ensures cause { BlamesDevice tree.old.failures tree.new.failures result }
+    ensures { PutsEntries tree.old tree.new (meaning entries.now) result }
 {
     let Ok(()) = store_root(tree) else {
         return Err(MakeFault::NoMemory);

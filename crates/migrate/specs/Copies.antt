@@ -1,9 +1,10 @@
 -- What a copy of nodes to a disk comes to.
-use Rattle.std.specs.Prelude.{List, MatchResult, None, Result, Some, false, ⊤, ℕ, ◌<◌, ◌≡◌, ◌≤◌}
+use Rattle.std.proofs.Common.{Global, Vec}
+use Rattle.std.specs.Prelude.{IfOk, IsErrOf, List, MatchResult, None, OnOk, Result, Some, false, ⊤, ℕ, ◌<◌, ◌≡◌, ◌≤◌}
 use Rattle.unixmodel.specs.Counts.{blocks_of}
 use Rattle.unixmodel.specs.Files.{Files, Node, longest, put, size_of, slot}
 use Rattle.unixmodel.specs.Formats.{small}
-use Rattle.unixmodel.specs.Image.{DenotesSmall, IsNode, inodes_in, size_in}
+use Rattle.unixmodel.specs.Image.{Denotes, DenotesSmall, IsNode, inodes_in, size_in}
 use Rattle.unixmodel.specs.Manifest.{data_blocks_of}
 use Rattle.layout.specs.declared.Geometry.{Geometry}
 use Rattle.imagecheck.specs.Faults.{IsOfImage, Tells}
@@ -63,3 +64,13 @@ IsBroken old fault = Tells small old fault × IsOfImage fault × ((files : Files
 abbrev pub Overfills : List ℕ → Type 0
 Overfills old = (files : Files) × DenotesSmall old files
     × (data_blocks_of (size_in old) (inodes_in old) < blocks_of files)
+
+-- an image in the format in use denotes the files of the old one, and has as many blocks and inodes; or the fault says
+-- why the old one is not migrated
+pub record IsMigrated (old : List ℕ) (result : Result (Vec ℕ Global) MigrateFault) : Type 0 where
+  pub migrated : IfOk result (λ new. (files : Files) → DenotesSmall old files → Denotes new.items files)
+  pub source : OnOk result ((files : Files) × DenotesSmall old files)
+  pub size : IfOk result (λ new. size_in new.items ≡ size_in old)
+  pub inodes : IfOk result (λ new. inodes_in new.items ≡ inodes_in old)
+  pub image : (fault : ImageFault) → IsErrOf result (Image fault) → IsBroken old fault
+  pub blocks : IsErrOf result Blocks → Overfills old

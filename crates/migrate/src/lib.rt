@@ -1,11 +1,7 @@
 //! An image of the format of small files becomes one of the format in use, with the same files.
 #![tactic(auto)]
 
-ghost use Rattle.std.specs.Prelude.{◌≡◌, ◌<◌, IfOk, IsErrOf, OnOk};
-ghost use Rattle.unixmodel.specs.Files.{Files};
-ghost use Rattle.unixmodel.specs.Image.{Denotes, DenotesSmall, inodes_in, size_in};
-ghost use Rattle.imagecheck.specs.declared.ImageFault.{ImageFault};
-ghost use Rattle.migrate.specs.Copies.{IsBroken, Overfills};
+ghost use Rattle.migrate.specs.Copies.{IsMigrated};
 
 mod copy;
 mod fault;
@@ -23,12 +19,7 @@ use std::alloc::Global;
 /// The fault is `Image` where the old one denotes no files of its format, and `Blocks` where the files take more blocks
 /// than the new one has: a file of 12 blocks has an index block there, and one of 268 blocks three.
 pub fn migrate(alloc: Global, old: &[u8]) -> Result<Vec<u8>, MigrateFault>
-    ensures migrated { IfOk result (λ new. (files : Files) → DenotesSmall old.now files → Denotes new.items files) }
-    ensures source { OnOk result ((files : Files) × DenotesSmall old.now files) }
-    ensures size { IfOk result (λ new. size_in new.items ≡ size_in old.now) }
-    ensures inodes { IfOk result (λ new. inodes_in new.items ≡ inodes_in old.now) }
-    ensures image { (fault : ImageFault) → IsErrOf result (MigrateFault.Image fault) → IsBroken old.now fault }
-    ensures blocks { IsErrOf result MigrateFault.Blocks → Overfills old.now }
+    ensures { IsMigrated old.now result }
 {
     let geometry = check1_bytes(alloc, old)?;
     let Ok(mut volume) = blank(alloc, geometry) else {

@@ -33,12 +33,14 @@ put_files-requires c =
     let p = possible c.if-not-is_possible.ensures in
     let bare = bare-tree p c.in_ok-volume.ensures.blank c.is_whole.ensures c.in_ok-tree.ensures in
     record {
-      up = bare.up;
+      able = record {
+        up = bare.up;
+        some = omega (arith, bare.long, p.inodes_low);
+        block = omega (arith, bare.limit, p.room);
+        empty = c.in_ok-made.ensures.empty;
+        room = omega (arith, c.in_ok-made.ensures.room, bare.long);
+      };
       none = bare.none;
-      some = omega (arith, bare.long, p.inodes_low);
-      block = omega (arith, bare.limit, p.room);
-      empty = c.in_ok-made.ensures.empty;
-      room = omega (arith, c.in_ok-made.ensures.room, bare.long);
     }
 
 pub returns-in_err-put_files-clause-refused : goal.returns-in_err-put_files-clause-refused

@@ -7,32 +7,38 @@ use Rattle.imagemake.proofs.put_files.Goals as goal
 pub store_root-requires : goal.store_root-requires
 store_root-requires g c =
     record {
-      up = c.requires.up;
+      up = c.requires.able.up;
       none = c.requires.none;
-      some = omega (arith, c.requires.some);
-      block = c.requires.block;
+      some = omega (arith, c.requires.able.some);
+      block = c.requires.able.block;
     }
 
-pub returns-in_default-clause-cause : goal.returns-in_default-clause-cause
-returns-in_default-clause-cause g c = Owns-failed (omega arith) c.store_root.ensures.serves.cause c.in_default.is
+pub returns-in_default : goal.returns-in_default
+returns-in_default g c = record {
+  made = tt;
+  refused = tt;
+  cause = Owns-failed (omega arith) c.store_root.ensures.serves.cause c.in_default.is;
+}
 
 pub add_entries-requires : goal.add_entries-requires
 add_entries-requires g c =
     let now = now-turned now-begin c.store_root.ensures c.in-Ok.is in
-    let long = ap length (now-files now) ∙ length-bare _ (omega (arith, c.requires.some)) in
+    let long = ap length (now-files now) ∙ length-bare _ (omega (arith, c.requires.able.some)) in
     record {
-      up = now-up now c.requires.up;
+      able = record {
+        up = now-up now c.requires.able.up;
+        some = omega (arith, c.requires.able.some, long);
+        block = omega (arith, c.requires.able.block, now-limit now);
+        empty = c.requires.able.empty;
+        room = omega (arith, c.requires.able.room, long);
+      };
       root = now-files now ∙ ap bare_files (sym long);
-      some = omega (arith, c.requires.some, long);
-      block = omega (arith, c.requires.block, now-limit now);
-      empty = c.requires.empty;
-      room = omega (arith, c.requires.room, long);
     }
 
 pub returns : goal.returns
 returns g c =
     let now = now-turned now-begin c.store_root.ensures c.in-Ok.is in
-    let long = ap length (now-files now) ∙ length-bare _ (omega (arith, c.requires.some)) in
+    let long = ap length (now-files now) ∙ length-bare _ (omega (arith, c.requires.able.some)) in
     record {
       made = makes-all now long (meaning c.args.entries.now) c.add_entries.new.tree c.add_entries.result
           c.add_entries.ensures.made;

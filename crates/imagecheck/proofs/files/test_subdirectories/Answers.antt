@@ -1,4 +1,4 @@
-use Rattle.imagecheck.proofs.Common.{◌≡◌, refl, ◌∙◌, sym, take_at, All-replicate}
+use Rattle.imagecheck.proofs.Common.{◌≡◌, ap, length, refl, ◌∙◌, sym, take_at, All-replicate}
 use Rattle.imagecheck.proofs.Collecting.{TellsSubdirectories-from, namings-fitting}
 use Rattle.imagecheck.proofs.Sounding.{err-told}
 use Rattle.imagecheck.proofs.files.test_subdirectories.Goals as goal
@@ -15,13 +15,17 @@ count_subdirectories-requires g c = record {
       (All-replicate (λ x. x ≡ 0) _ 0 refl);
 }
 
-pub test_links-requires-clause-subdirectories : goal.test_links-requires-clause-subdirectories
-test_links-requires-clause-subdirectories g c =
+pub test_links-requires-clause-counts : goal.test_links-requires-clause-counts
+test_links-requires-clause-counts g c =
     let counts = c.count_subdirectories.new.counts in
-    rw (
-      c.deref.ensures.value,
-      take_at counts _ c.in_ok-subdirectories.subdirectories.len
-          (c.count_subdirectories.ensures.long ∙ sym c.in_ok-subdirectories.ensures.len),
-    )
-    (TellsSubdirectories-from c.requires.listed counts c.count_subdirectories.ensures.long
-    c.count_subdirectories.ensures.counted)
+    let all : c.deref.result.now ≡ counts = c.deref.ensures.value
+    ∙ take_at counts _ c.in_ok-subdirectories.subdirectories.len
+    (c.count_subdirectories.ensures.long ∙ sym c.in_ok-subdirectories.ensures.len) in
+    record {
+      names_long = c.requires.long;
+      names = c.requires.counts;
+      subdirectories_long = ap length all ∙ c.count_subdirectories.ensures.long;
+      subdirectories = rw all
+          (TellsSubdirectories-from c.requires.listed counts c.count_subdirectories.ensures.long
+          c.count_subdirectories.ensures.counted);
+    }

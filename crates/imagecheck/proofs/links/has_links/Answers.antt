@@ -9,9 +9,10 @@ use Rattle.imagecheck.proofs.links.has_links.Goals.{After-fits_links}
 -- the test of a count
 fits-is : (c : After-fits_links) → IsTrue c.fits_links.result ↔ LinksFit c.args.image.now c.loop-n.n
 fits-is c =
-    let in_names : c.loop-n.n < length c.args.names.now = omega (arith, c.requires.names_long, c.loop-n-test.true) in
+    let counts = c.requires.counts in
+    let in_names : c.loop-n.n < length c.args.names.now = omega (arith, counts.names_long, c.loop-n-test.true) in
     let in_subdirectories : c.loop-n.n < length c.args.subdirectories.now =
-    omega (arith, c.requires.subdirectories_long, c.loop-n-test.true) in
+    omega (arith, counts.subdirectories_long, c.loop-n-test.true) in
     let known = number-read (kind_in c.args.image.now c.loop-n.n) (major_in c.args.image.now c.loop-n.n)
     (minor_in c.args.image.now c.loop-n.n)
     ((HasBlocks-of c.args.image.now c.requires.blocks).inodes.kinds.known c.loop-n.n (omega arith)
@@ -20,8 +21,8 @@ fits-is c =
       c.kind.ensures,
       known,
       c.links-told.ensures,
-      c.requires.names c.loop-n.n in_names,
-      c.requires.subdirectories c.loop-n.n in_subdirectories,
+      counts.names c.loop-n.n in_names,
+      counts.subdirectories c.loop-n.n in_subdirectories,
     ) at c.fits_links.ensures
 
 pub links-told-requires : goal.links-told-requires

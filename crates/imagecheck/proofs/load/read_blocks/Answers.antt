@@ -10,10 +10,12 @@ returns-in_err-image g c =
     record {
       bytes = rw e tt;
       only = rw e tt;
-      same = refl;
-      identity = refl;
-      later = omega arith;
-      failed = λ is. absurd (not_device (one-fault e is));
+      reads = record {
+        same = refl;
+        identity = refl;
+        later = omega arith;
+        failed = λ is. absurd (not_device (one-fault e is));
+      };
     }
 
 pub returns-in_err-block : goal.returns-in_err-block
@@ -23,11 +25,13 @@ returns-in_err-block g c =
     record {
       bytes = rw e tt;
       only = rw e tt;
-      same = c.in_err-block.ensures.same ∙ inv.same;
-      identity = c.read.ensures.identity ∙ inv.identity;
-      later = omega (arith, inv.later, c.in_err-block.ensures.cause.later);
-      failed = λ _. Rises-before (g.D.BlockDev.failures c.args.device.now) (g.D.BlockDev.failures c.loop-n.device)
-          (g.D.BlockDev.failures c.read.new.self) inv.later (c.in_err-block.ensures.cause.failed refl);
+      reads = record {
+        same = c.in_err-block.ensures.same ∙ inv.same;
+        identity = c.read.ensures.identity ∙ inv.identity;
+        later = omega (arith, inv.later, c.in_err-block.ensures.cause.later);
+        failed = λ _. Rises-before (g.D.BlockDev.failures c.args.device.now) (g.D.BlockDev.failures c.loop-n.device)
+            (g.D.BlockDev.failures c.read.new.self) inv.later (c.in_err-block.ensures.cause.failed refl);
+      };
     }
 
 pub returns-in_err-extend_from_slice : goal.returns-in_err-extend_from_slice
@@ -37,10 +41,12 @@ returns-in_err-extend_from_slice g c =
     record {
       bytes = rw e tt;
       only = rw e tt;
-      same = c.in_ok-block.ensures.same ∙ inv.same;
-      identity = c.read.ensures.identity ∙ inv.identity;
-      later = omega (arith, inv.later, c.in_ok-block.ensures.cause.later);
-      failed = λ is. absurd (not_device (one-fault e is));
+      reads = record {
+        same = c.in_ok-block.ensures.same ∙ inv.same;
+        identity = c.read.ensures.identity ∙ inv.identity;
+        later = omega (arith, inv.later, c.in_ok-block.ensures.cause.later);
+        failed = λ is. absurd (not_device (one-fault e is));
+      };
     }
 
 pub loop-n-preserved : goal.loop-n-preserved

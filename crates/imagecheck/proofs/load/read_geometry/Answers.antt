@@ -18,8 +18,10 @@ returns g c =
     record {
       judged = c.geometry_in.ensures.judged blocks front;
       memory = λ told. subst (λ r. IfErr r IsOfImage) told c.geometry_in.ensures.own;
-      same = c.read.ensures.same;
-      identity = c.read.ensures.identity;
-      later = omega arith;
-      failed = λ told. absurd (subst (λ r. IfErr r IsOfImage) told c.geometry_in.ensures.own);
+      reads = record {
+        same = c.read.ensures.same;
+        identity = c.read.ensures.identity;
+        later = omega arith;
+        failed = λ told. absurd (subst (λ r. IfErr r IsOfImage) told c.geometry_in.ensures.own);
+      };
     }

@@ -12,14 +12,17 @@ loop-marks-init c = record {
 }
 
 pub overflow_cast-marks : goal.overflow_cast-marks
-overflow_cast-marks c = let h = c.requires.directory.high in let m = inodes-most c.requires.geometry in let g =
-    c.requires.geometry.inodes in omega arith
+overflow_cast-marks c =
+    let h = c.requires.directory.high in
+    let m = inodes-most c.requires.sound.geometry in
+    let g = c.requires.sound.geometry.inodes in
+    omega arith
 
 pub loop-marks-smaller : goal.loop-marks-smaller
 loop-marks-smaller c =
     let h = c.loop-marks.invariant.directory.high in
     unmarked_less c.loop-marks.marks c.loop-marks.n c.args.start
-    (omega (arith, c.loop-marks.auto.marks, c.requires.long, c.requires.geometry.inodes)) c.loop-marks-test.true
+    (omega (arith, c.loop-marks.auto.marks, c.requires.long, c.requires.sound.geometry.inodes)) c.loop-marks-test.true
     (λ z. let a = c.requires.above in absurd (omega arith))
 
 pub loop-marks-preserved : goal.loop-marks-preserved
@@ -30,7 +33,8 @@ loop-marks-preserved c =
       walk = subst (λ n. IsWalk files c.args.start n (slice_set c.loop-marks.marks c.loop-marks.n c.args.start))
           (sym c.parent-n.ensures.parent)
           (IsWalk-more files c.args.start c.loop-marks.n c.loop-marks.marks c.loop-marks.invariant.walk c.requires.above
-          (omega (arith, c.loop-marks.auto.marks, c.requires.long, c.requires.geometry.inodes)) c.loop-marks-test.true);
+          (omega (arith, c.loop-marks.auto.marks, c.requires.long, c.requires.sound.geometry.inodes))
+          c.loop-marks-test.true);
       directory = c.parent-n.ensures.directory;
     }
 
@@ -48,4 +52,5 @@ returns c =
     ))
     (λ same reached.
     round_not files c.args.start n marks walk c.requires.above same
-    (Climbs-reached files c.requires.entries reached n (is_directory-at image n c.loop-marks.invariant.directory)))
+    (Climbs-reached files c.requires.sound.entries reached n
+    (is_directory-at image n c.loop-marks.invariant.directory)))

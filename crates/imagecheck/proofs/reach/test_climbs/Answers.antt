@@ -9,14 +9,14 @@ use Rattle.imagecheck.proofs.reach.test_climbs.Goals.{else-is_directory-via-then
 
 pub returns-then-not-climb-clause-judged : goal.returns-then-not-climb-clause-judged
 returns-then-not-climb-clause-judged c = (
-  HasBlocks-of c.args.image.now c.requires.blocks,
-  c.requires.entries,
-  c.requires.links,
+  HasBlocks-of c.args.image.now c.requires.sound.blocks,
+  c.requires.sound.entries,
+  c.requires.sound.links,
   MatchBool-at_false _ _ c.if-not-climb.true c.climb.ensures,
 )
 
 pub is_directory-requires : goal.is_directory-requires
-is_directory-requires c = HasPlace-at c.requires.geometry c.loop-n.n c.loop-n-test.true
+is_directory-requires c = HasPlace-at c.requires.sound.geometry c.loop-n.n c.loop-n-test.true
 
 pub loop-n-preserved : goal.loop-n-preserved
 loop-n-preserved c =
@@ -43,6 +43,6 @@ loop-n-preserved c =
 
 pub returns-clause-judged : goal.returns-clause-judged
 returns-clause-judged c =
-    IsReached-from (files_in c.args.image.now) c.requires.entries c.requires.links (λ n directory.
+    IsReached-from (files_in c.args.image.now) c.requires.sound.entries c.requires.sound.links (λ n directory.
     let d : IsDirectoryIn c.args.image.now n = IsDirectoryIn-from c.args.image.now n directory in
-    c.loop-n.invariant.climb n d.low (omega (arith, c.requires.geometry.inodes, c.loop-n-test.false)) d.kind)
+    c.loop-n.invariant.climb n d.low (omega (arith, c.requires.sound.geometry.inodes, c.loop-n-test.false)) d.kind)

@@ -30,14 +30,26 @@ returns-in-Some g c =
       failed = λ device. absurd (judged.device device);
     }
 
-pub returns-in_err-geometry-clause-refused : goal.returns-in_err-geometry-clause-refused
-returns-in_err-geometry-clause-refused g c =
-    rw (err-told c.from_residual.ensures.1) (Tells-not _ _ _ c.in_err-geometry.ensures.judged)
+pub returns-in_err-geometry : goal.returns-in_err-geometry
+returns-in_err-geometry g c =
+    let is = err-told c.from_residual.ensures.1 in
+    let reads = c.in_err-geometry.ensures.reads in
+    record {
+      denotes = rw is tt;
+      inodes = rw is tt;
+      blocks = rw is tt;
+      fault = rw is c.in_err-geometry.ensures.judged;
+      refused = rw is (Tells-not _ _ _ c.in_err-geometry.ensures.judged);
+      same = reads.same;
+      identity = reads.identity;
+      later = reads.later;
+      failed = λ e. reads.failed (ap Err (one-fault is e));
+    }
 
 pub read_blocks-requires : goal.read_blocks-requires
 read_blocks-requires g c = record {
   count = count-is (g.D.BlockDev.content c.args.device.now) (g.met.D.BlockDev.sizes c.args.device.now)
-      c.in_ok-geometry.ensures.judged.geometry ∙ ap length (sym c.read_geometry.ensures.same);
+      c.in_ok-geometry.ensures.judged.geometry ∙ ap length (sym c.read_geometry.ensures.reads.same);
   most = size-most c.in_ok-geometry.ensures.judged.geometry;
 }
 
@@ -55,18 +67,18 @@ returns-in_err-image g c =
       blocks = rw is tt;
       fault = rw is told;
       refused = rw is (Tells-not (format_named c.args.format) image fault told);
-      same = ◌∙◌ {a = g.D.BlockDev.content c.read_blocks.new.device} c.read_blocks.ensures.same
-          c.read_geometry.ensures.same;
-      identity = c.read_blocks.ensures.identity ∙ c.read_geometry.ensures.identity;
-      later = omega (arith, c.read_blocks.ensures.later, c.read_geometry.ensures.later);
+      same = ◌∙◌ {a = g.D.BlockDev.content c.read_blocks.new.device} c.read_blocks.ensures.reads.same
+          c.read_geometry.ensures.reads.same;
+      identity = c.read_blocks.ensures.reads.identity ∙ c.read_geometry.ensures.reads.identity;
+      later = omega (arith, c.read_blocks.ensures.reads.later, c.read_geometry.ensures.reads.later);
       failed = λ e. Rises-before (g.D.BlockDev.failures device) (g.D.BlockDev.failures c.read_geometry.new.device)
-          (g.D.BlockDev.failures c.read_blocks.new.device) c.read_geometry.ensures.later
-          (c.in_err-image.ensures.failed (ap Err (one-fault is e)));
+          (g.D.BlockDev.failures c.read_blocks.new.device) c.read_geometry.ensures.reads.later
+          (c.in_err-image.ensures.reads.failed (ap Err (one-fault is e)));
     }
 
 pub summary_of-requires : goal.summary_of-requires
 summary_of-requires g c =
-    rw (c.deref.ensures.value, c.in_ok-image.ensures.bytes, c.read_geometry.ensures.same)
+    rw (c.deref.ensures.value, c.in_ok-image.ensures.bytes, c.read_geometry.ensures.reads.same)
     c.in_ok-geometry.ensures.judged.geometry
 
 pub returns : goal.returns
@@ -74,7 +86,7 @@ returns g c =
     let image = image_of (g.D.BlockDev.content c.args.device.now) in
     let r = c.summary_of.result in
     let found : MatchResult r (IsSummary image) (Finds image) =
-    rw (c.deref.ensures.value, c.in_ok-image.ensures.bytes, c.read_geometry.ensures.same)
+    rw (c.deref.ensures.value, c.in_ok-image.ensures.bytes, c.read_geometry.ensures.reads.same)
     at c.summary_of.ensures in
     let judged = judged-from _ image c.in_ok-geometry.ensures.judged.magic r found in
     record {
@@ -83,9 +95,9 @@ returns g c =
       blocks = judged.blocks;
       fault = judged.fault;
       refused = judged.refused;
-      same = ◌∙◌ {a = g.D.BlockDev.content c.read_blocks.new.device} c.read_blocks.ensures.same
-          c.read_geometry.ensures.same;
-      identity = c.read_blocks.ensures.identity ∙ c.read_geometry.ensures.identity;
-      later = omega (arith, c.read_blocks.ensures.later, c.read_geometry.ensures.later);
+      same = ◌∙◌ {a = g.D.BlockDev.content c.read_blocks.new.device} c.read_blocks.ensures.reads.same
+          c.read_geometry.ensures.reads.same;
+      identity = c.read_blocks.ensures.reads.identity ∙ c.read_geometry.ensures.reads.identity;
+      later = omega (arith, c.read_blocks.ensures.reads.later, c.read_geometry.ensures.reads.later);
       failed = λ device. absurd (judged.device device);
     }
