@@ -1,4 +1,4 @@
--- What a check of a device's image answers, and what it leaves of the device.
+-- What a check of a device's image returns, and what it leaves of the device.
 use Rattle.std.specs.Prelude.{IfErr, IfOk, IsErrOf, List, OnOk, Result, length, ℕ, ◌≡◌, ◌≤◌}
 use Rattle.unixmodel.specs.Failures.{Rises}
 use Rattle.unixmodel.specs.Formats.{Format}
