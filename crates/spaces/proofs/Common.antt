@@ -67,7 +67,8 @@ unfoldable pub use Rattle.spaces.specs.Instructions.{Advances}
 pub use Rattle.spaces.specs.Spaces.{bytes_in, computed, forked, frames_in, grown, has_pipe, has_space, no_pages, shrunk}
 pub use Rattle.spaces.specs.Spaces.{Spaces, SpaceView, taken_frames, Traps, view_at, with_pipe, with_place, with_view}
 pub use Rattle.spaces.specs.Spaces.{Executes, copied}
-pub use Rattle.spaces.specs.View.{frames_at, IsActive, IsSpaces, pipe_frames, pipe_shown, Runs, shown, spaces_of}
+pub use Rattle.spaces.specs.View.{frames_at, IsActive, IsLoaded, IsSpaces, pipe_frames, pipe_shown, Runs, shown}
+pub use Rattle.spaces.specs.View.{spaces_of}
 pub use Rattle.spaces.specs.View.{view_with}
 pub use Rattle.spaces.specs.declared.Spaces.TheInside.{Inside}
 pub use Rattle.hart.proofs.Ram.{Ram}

@@ -11,7 +11,7 @@ use Rattle.spaces.proofs.Common.{pipe_shown, shown, spaces_of, Inside, each-set}
 use Rattle.spaces.proofs.Places.{pipe-free, pipe-held, pipe-slot, pipes-placed, free-taken, taken-fits}
 use Rattle.spaces.proofs.SpacesLemmas.{Pipes, map-same, none-of, refilled, some-pipe, taken-piped, within}
 use Rattle.spaces.proofs.Stepped.{here}
-use Rattle.spaces.proofs.Shown.{with_holders, Shows, runs-on, same-shown, still-active}
+use Rattle.spaces.proofs.Shown.{with_holders, Shows, runs-on, same-shown, still-loaded}
 use Rattle.vm.specs.Shares as shares
 
 -- ---- what the slots for pipes show
@@ -112,9 +112,10 @@ module _ {T : Type 0} {held : T → Held} {i : Inside T} (is : IsSpaces held i) 
             (λ f. one-place frames_at f ps q refl) trades (one-each y)
             (λ f. set-place frames_at frames_at f ps q y hi (λ r ne. refl)));
         all = is.all;
-        active = still-active (held i.translator) (held i.translator) i.memory.ram k i.hart.root.0 i.places.items
-            i.places.items i.active (λ j a run. runs-on run run.stands (all j run.space run.stands) (λ t h. h))
-            is.active;
+        loaded = still-loaded (held i.translator) (held i.translator) i.memory.ram k i.hart.root.0 i.places.items
+            i.places.items i.loaded (λ j a run. runs-on run run.stands (all j run.space run.stands) (λ t h. h))
+            is.loaded;
+        active = is.active;
         inside = λ x h. let old = is.inside x h in let count = trades.count in omega (arith, old, count);
         pipes = ap length e ∙ length-set ps q y ∙ is.pipes;
         both = rw e (each-set IsOpen ps q y hi here (λ r p ne at. is.both r p at));

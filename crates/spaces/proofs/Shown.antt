@@ -2,7 +2,7 @@
 use Rattle.spaces.proofs.Common.{Ram, Held, ◌<◌, ap, get_or-set_same, length, map, None, Option, refl, slice_set, Some}
 use Rattle.spaces.proofs.Common.{subst, sym, ℕ, ◌∙◌, ◌≡◌, ◌≤◌, set-get_or, refill, Frames, FrameNo, IsCoherent, slot}
 use Rattle.spaces.proofs.Common.{Memory, Translation, OthersUntouched, entries_of, IsUntouched, pages_of, Space}
-use Rattle.spaces.proofs.Common.{SpaceView, taken_frames, with_place, IsActive, IsSpaces, Runs, shown, Spaces}
+use Rattle.spaces.proofs.Common.{SpaceView, taken_frames, with_place, IsLoaded, IsSpaces, Runs, shown, Spaces}
 use Rattle.spaces.proofs.Common.{spaces_of, view_with, Inside}
 use Rattle.frames.specs.declared.memory.Memory.{Memory as FrameMemory}
 use Rattle.spaces.proofs.SpacesLemmas.{Places, map-placed}
@@ -30,11 +30,11 @@ shown-placed m k places at y others =
 -- ---- what the hart runs
 
 -- what the active slot runs, from what holds of any slot
-pub still-active : (old new : Held) (m k : Ram) (root : ℕ) (places q : Places) (a : Option ℕ)
-    → ((j : ℕ) → a ≡ Some j → Runs old m root places j → Runs new k root q j) → IsActive old m root places a
-    → IsActive new k root q a
-still-active old new m k root places q None each run = tt
-still-active old new m k root places q (Some j) each run = each j refl run
+pub still-loaded : (old new : Held) (m k : Ram) (root : ℕ) (places q : Places) (a : Option ℕ)
+    → ((j : ℕ) → a ≡ Some j → Runs old m root places j → Runs new k root q j) → IsLoaded old m root places a
+    → IsLoaded new k root q a
+still-loaded old new m k root places q None each run = tt
+still-loaded old new m k root places q (Some j) each run = each j refl run
 
 -- a space that stays, where no more is held of its tables
 pub runs-on : {old new : Held} {m k : Ram} {root j : ℕ} {places q : Places} (run : Runs old m root places j)

@@ -41,6 +41,7 @@ Comes a old new result = IfNone result (IfSome a (Executes old new)) × IfSome r
 pub record IsRun {T : Type 0} (held : T → Held) (i : Inside T) (at : ℕ) (x : Space) : Type 0 where
   pub is : IsSpaces held i
   pub active : i.active ≡ Some at
+  pub loaded : i.loaded ≡ Some at
   pub stands : slot i.places.items at ≡ Some x
   pub same : i.hart.root.0 ≡ x.root.0
   pub coherent : IsCoherent (held i.translator) x.root.0 (entries_of i.memory.ram x)
@@ -48,8 +49,18 @@ pub record IsRun {T : Type 0} (held : T → Held) (i : Inside T) (at : ℕ) (x :
 pub run-of : {T : Type 0} {held : T → Held} {i : Inside T} {at : ℕ} → IsSpaces held i
     → i.active ≡ Some at → (x : Space) × IsRun held i at x
 run-of {held} {i} {at} is e =
-    let run : Runs (held i.translator) i.memory.ram i.hart.root.0 i.places.items at = rw e at is.active in
-    (run.space, record { is = is; active = e; stands = run.stands; same = run.same; coherent = run.coherent })
+    let loaded : i.loaded ≡ Some at = rw e at is.active in
+    let run : Runs (held i.translator) i.memory.ram i.hart.root.0 i.places.items at = rw loaded at is.loaded in (
+      run.space,
+      record {
+        is = is;
+        active = e;
+        loaded = loaded;
+        stands = run.stands;
+        same = run.same;
+        coherent = run.coherent;
+      },
+    )
 
 pub run-at : {T : Type 0} {held : T → Held} {i : Inside T} {at : ℕ} (x : Space) → IsSpaces held i
     → i.active ≡ Some at → slot i.places.items at ≡ Some x → IsRun held i at x
@@ -148,7 +159,8 @@ module _ {T : Type 0} {held : T → Held} {i : Inside T} {at : ℕ} {x : Space} 
       record {
         machine = here.machine;
         all = r.is.all;
-        active = rw r.active now;
+        loaded = rw r.loaded now;
+        active = r.is.active;
         inside = inside;
         pipes = r.is.pipes;
         both = r.is.both;

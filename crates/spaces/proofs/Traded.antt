@@ -7,16 +7,16 @@ use Rattle.spaces.proofs.Common.{Trades, Frames, coherent-nothing, IsCoherent, p
 use Rattle.spaces.proofs.Common.{shared_memory, zero_page, HoldsNothing, Translation, length-mapping, fork-machine}
 use Rattle.spaces.proofs.Common.{trade-machine, trade-others, frames_for, entry_marks, IsMachine, IsPlace, entries_of}
 use Rattle.spaces.proofs.Common.{holds, IsSpace, pages_in, pages_of, Reframes, Stands, Space, VmFault, forked}
-use Rattle.spaces.proofs.Common.{frames_in, grown, has_space, no_pages, SpaceView, taken_frames, with_place, IsActive}
+use Rattle.spaces.proofs.Common.{frames_in, grown, has_space, no_pages, SpaceView, taken_frames, with_place, IsLoaded}
 use Rattle.spaces.proofs.Common.{IsSpaces, pipe_frames, Runs, shown, spaces_of, view_with, Inside, copied}
-use Rattle.spaces.proofs.Common.{nil_from_length}
+use Rattle.spaces.proofs.Common.{nil_from_length, FrameNo, IfSome, IsActive}
 use Rattle.frames.specs.Owned.{IsDuplicate}
 use Rattle.frames.specs.declared.memory.Memory.{Memory as FrameMemory}
 use Rattle.spaces.proofs.Places.{pipes-beside, frames-shown, frames_for-pages, free-is, free-taken, held-is}
 use Rattle.spaces.proofs.Places.{length-pages_of, places-count, slot-is, taken-fits}
 use Rattle.spaces.proofs.SpacesLemmas.{Places, map-placed, place-free, refilled, taken-forked, taken-placed, within}
 use Rattle.spaces.proofs.Shown.{Placed, Shows, placed-as, runs-changed, runs-on, same-place, set_in, shown-as}
-use Rattle.spaces.proofs.Shown.{shown-placed, still-active, with_holders}
+use Rattle.spaces.proofs.Shown.{shown-placed, still-loaded, with_holders}
 use Rattle.frames.proofs.TradeLemmas.{Trades-none}
 use Rattle.vm.specs.Owned.{Grows, Resizes}
 use Rattle.vm.specs.Shares as shares
@@ -28,17 +28,18 @@ module _ {T : Type 0} {held : T → Held} {i : Inside T} (is : IsSpaces held i) 
   placed : (at from : ℕ) (y : Option Space) (k : Ram) (n : Frames) (t : T) (q : Places) (new : List ℕ)
       (places : List (Option SpaceView))
       → q ≡ slice_set i.places.items at y → IsMachine k n (slice_set i.places.items at y) (pipe_frames i.pipes.items)
-      → IsActive (held t) k i.hart.root.0 (slice_set i.places.items at y) i.active
+      → IsLoaded (held t) k i.hart.root.0 (slice_set i.places.items at y) i.loaded
       → ((x : Translation) → held t x → held i.translator x) → map (shown k) (slice_set i.places.items at y) ≡ places
       → Trades i.memory.ram k i.memory.frames n (shares.held_at i.memory.ram (slot i.places.items from)) new
       → Shows held i (record i { memory = with_holders k n; translator = t; places = record { items = q } })
       (record (spaces_of i) { places = places })
-  placed at from y k n t q new places e machine active fewer shows trades =
+  placed at from y k n t q new places e machine loaded fewer shows trades =
       let j : Inside _ = record i { memory = with_holders k n; translator = t; places = record { items = q } } in
       let sound : IsSpaces held j = record {
         machine = rw e machine;
         all = ap length e ∙ length-set i.places.items at y ∙ is.all;
-        active = rw e active;
+        loaded = rw e loaded;
+        active = is.active;
         inside = λ x h. let old = is.inside x (fewer x h) in let count = trades.count in omega (arith, old, count);
         pipes = is.pipes;
         both = is.both;
@@ -61,7 +62,7 @@ module _ {T : Type 0} {held : T → Held} {i : Inside T} (is : IsSpaces held i) 
       → Trades i.memory.ram k i.memory.frames n (shares.held_at i.memory.ram (slot i.places.items at))
       (shares.held_at k y)
       → ((x : Translation) → held t x → held i.translator x)
-      → (i.active ≡ Some at → Runs (held i.translator) i.memory.ram i.hart.root.0 i.places.items
+      → (i.loaded ≡ Some at → Runs (held i.translator) i.memory.ram i.hart.root.0 i.places.items
       at → Runs (held t) k i.hart.root.0 (slice_set i.places.items at y) at)
       → Placed held i (record i { memory = with_holders k n; translator = t; places = record { items = q } })
       at (shown k y)
@@ -70,18 +71,18 @@ module _ {T : Type 0} {held : T → Held} {i : Inside T} (is : IsSpaces held i) 
       (shares.held_at k y)
       at is.machine trades in
       let P : ℕ → Type 0 = λ j. Runs (held t) k i.hart.root.0 (slice_set i.places.items at y) j in
-      let active = still-active (held i.translator) (held t) i.memory.ram k i.hart.root.0 i.places.items
-      (slice_set i.places.items at y) i.active (λ j a run. elim (cases_eq j at) [
+      let loaded = still-loaded (held i.translator) (held t) i.memory.ram k i.hart.root.0 i.places.items
+      (slice_set i.places.items at y) i.loaded (λ j a run. elim (cases_eq j at) [
         | inl same ↦ subst P (sym same)
             (here (a ∙ ap Some same)
             (subst (λ (j : ℕ). Runs (held i.translator) i.memory.ram i.hart.root.0 i.places.items j) same run))
         | inr ne ↦ runs-on run (get_or-set_other i.places.items at j y None ne ∙ run.stands)
             (others j run.space ne run.stands) fewer
-      ]) is.active in
+      ]) is.loaded in
       placed at at y k n t q (shares.held_at k y) (slice_set (map (shown i.memory.ram) i.places.items) at (shown k y)) e
       (trade-machine i.memory.ram k i.memory.frames n i.places.items (pipe_frames i.pipes.items)
       at y is.machine hi place trades)
-      active fewer (shown-placed i.memory.ram k i.places.items at y others) trades
+      loaded fewer (shown-placed i.memory.ram k i.places.items at y others) trades
 
   free-place : (at : ℕ) → at < 64 → has_space (spaces_of i) at ≡ false
       → (at < length i.places.items) × (slot i.places.items at ≡ None)
@@ -105,7 +106,7 @@ module _ {T : Type 0} {held : T → Held} {i : Inside T} (is : IsSpaces held i) 
       → has_space (spaces_of i) to ≡ false → xs ≡ i.places.items → slot i.places.items from ≡ Some x
       → IsSpace k x n → IsSpace k z n
       → Trades i.memory.ram k i.memory.frames n (holds i.memory.ram x) (holds k x ++ holds k z)
-      → ((u : Translation) → held t u → held i.translator u) → (i.active ≡ Some from → HoldsNothing (held t))
+      → ((u : Translation) → held t u → held i.translator u) → (i.loaded ≡ Some from → HoldsNothing (held t))
       → pages_of k x ≡ shared_memory (pages_of i.memory.ram x) → pages_of k z ≡ shared_memory (pages_of i.memory.ram x)
       → z.size ≡ x.size → Shows held i (set_in i (with_holders k n) t xs to (Some z)) (copied (spaces_of i) from to)
   shared-there {k} {n} from to x z t low free same stands parent child trades fewer fenced marked pages size =
@@ -118,9 +119,9 @@ module _ {T : Type 0} {held : T → Held} {i : Inside T} (is : IsSpaces held i) 
       let others = trade-others i.memory.ram k i.memory.frames n all (pipe_frames i.pipes.items)
       (holds k x ++ holds k z) from
       is.machine first in
-      let active = still-active (held i.translator) (held t) i.memory.ram k i.hart.root.0 all
+      let loaded = still-loaded (held i.translator) (held t) i.memory.ram k i.hart.root.0 all
       (slice_set all to (Some z))
-      i.active (λ j a run. (
+      i.loaded (λ j a run. (
       let apart : j ≢ to = λ (e : j ≡ to). let bad : None ≡ Some run.space = sym place.1 ∙ ap (slot all) (sym e)
       ∙ run.stands in cc in
       let there = get_or-set_other all to j (Some z) None apart ∙ run.stands in
@@ -132,7 +133,7 @@ module _ {T : Type 0} {held : T → Held} {i : Inside T} (is : IsSpaces held i) 
           coherent = coherent-nothing (held t) run.space.root.0 (entries_of k run.space) (fenced (a ∙ ap Some same));
         }
         | inr ne ↦ runs-on run there (others j run.space ne run.stands) fewer
-      ])) is.active in
+      ])) is.loaded in
       let shows = map-placed (shown k) (shown k) all to (Some z) (λ j ne. refl)
       ∙ ap (λ (l : List (Option SpaceView)). slice_set l to (shown k (Some z)))
       (ap (map (shown k)) (same-place all from x stands) ∙ shown-placed i.memory.ram k all from (Some x) others)
@@ -144,11 +145,59 @@ module _ {T : Type 0} {held : T → Held} {i : Inside T} (is : IsSpaces held i) 
       (slice_set (slice_set (spaces_of i).places from now) to now) (refilled to same refl)
       (fork-machine i.memory.ram k i.memory.frames n all (pipe_frames i.pipes.items) from to x z is.machine stands
       place.0 place.1
-      parent child trades) active fewer shows first)
+      parent child trades) loaded fewer shows first)
 
-  -- a slot that isn't the active one loses its space
+  -- fewer slots are loaded
+  pub less-loaded : (at : ℕ) (l : Option ℕ) → IfSome l (λ j. i.loaded ≡ Some j)
+      → ((j : ℕ) → j ≢ at → i.loaded ≡ Some j → l ≡ Some j) → i.active ≢ Some at
+      → IsSpaces held (record i { loaded = l })
+  less-loaded at l same others idle = record {
+    machine = is.machine;
+    all = is.all;
+    loaded = loads l same;
+    active = runs i.active refl is.active;
+    inside = is.inside;
+    pipes = is.pipes;
+    both = is.both;
+  } where
+    loads : (o : Option ℕ) → IfSome o (λ j. i.loaded ≡ Some j)
+        → IsLoaded (held i.translator) i.memory.ram i.hart.root.0 i.places.items o
+    loads None same = tt
+    loads (Some j) same = rw same at is.loaded
+
+    runs : (a : Option ℕ) → i.active ≡ a → IsActive a i.loaded → IsActive a l
+    runs None e active = tt
+    runs (Some j) e active = others j (λ same. idle (e ∙ ap Some same)) active
+
+  -- another slot is loaded, or the same again
+  pub loads-there : (at : ℕ) (x : Space) (t : T) (root : FrameNo) → slot i.places.items at ≡ Some x → root ≡ x.root
+      → ((u : Translation) → held t u → held i.translator u) → (i.loaded ≢ Some at → HoldsNothing (held t))
+      → IsLoaded (held t) i.memory.ram root.0 i.places.items (Some at)
+  loads-there at x t root stands same fewer fenced = record {
+    space = x;
+    stands = stands;
+    same = ap (λ (f : FrameNo). f.0) same;
+    coherent = holds-there i.loaded refl is.loaded;
+  } where
+    nothing : i.loaded ≢ Some at → IsCoherent (held t) x.root.0 (entries_of i.memory.ram x)
+    nothing other = coherent-nothing (held t) x.root.0 (entries_of i.memory.ram x) (fenced other)
+
+    holds-there : (o : Option ℕ) → i.loaded ≡ o
+        → IsLoaded (held i.translator) i.memory.ram i.hart.root.0 i.places.items o
+        → IsCoherent (held t) x.root.0 (entries_of i.memory.ram x)
+    holds-there None e loaded = nothing (λ other. absurd (let bad : None ≡ Some at = sym e ∙ other in cc))
+    holds-there (Some j) e run = elim (cases_eq j at) [
+      | inl same ↦
+          let both : Some run.space ≡ Some x = sym run.stands ∙ ap (slot i.places.items) same ∙ stands in
+          let is : run.space ≡ x = cc in
+          subst (λ (d : Space). IsCoherent (held t) d.root.0 (entries_of i.memory.ram d)) is
+          (record { walks = λ u h root. run.coherent.walks u (fewer u h) root })
+      | inr other ↦ nothing (λ there. other (let both : Some j ≡ Some at = sym e ∙ there in cc))
+    ]
+
+  -- a slot that isn't loaded loses its space
   pub destroyed : {k : Ram} {n : Frames} {xs : Places} {y : Option Space} (at : ℕ) (x : Space)
-      → slot i.places.items at ≡ Some x → i.active ≢ Some at → xs ≡ i.places.items → y ≡ None → IsFreeList k n
+      → slot i.places.items at ≡ Some x → i.loaded ≢ Some at → xs ≡ i.places.items → y ≡ None → IsFreeList k n
       → Trades i.memory.ram k i.memory.frames n (holds i.memory.ram x) []
       → Placed held i (set_in i (with_holders k n) i.translator xs at y) at None
   destroyed {k} {n} at x stands idle same gone free trades =
@@ -160,7 +209,7 @@ module _ {T : Type 0} {held : T → Held} {i : Inside T} (is : IsSpaces held i) 
       → q ≡ slice_set i.places.items at (Some z) → IsSpace k z n
       → Trades i.memory.ram k i.memory.frames n (holds i.memory.ram x) (holds k z)
       → z.root ≡ x.root → ((u : Translation) → held t u → held i.translator u)
-      → (i.active ≡ Some at → IsCoherent (held i.translator) x.root.0 (entries_of i.memory.ram x)
+      → (i.loaded ≡ Some at → IsCoherent (held i.translator) x.root.0 (entries_of i.memory.ram x)
       → IsCoherent (held t) x.root.0 (entries_of k z))
       → Placed held i (record i { memory = with_holders k n; translator = t; places = record { items = q } })
       at (shown k (Some z))
@@ -170,12 +219,12 @@ module _ {T : Type 0} {held : T → Held} {i : Inside T} (is : IsSpaces held i) 
       (λ a run. runs-changed (held i.translator) (held t) i.memory.ram k i.hart.root.0 i.places.items
       at x z hi stands root (coherent a) run)
 
-  -- pages of a space are written, and may have other frames: then nothing is held for the active slot, which shows this
+  -- pages of a space are written, and may have other frames: then nothing is held for the loaded slot, which shows this
   -- memory
   pub reframed-showing : (at : ℕ) (x : Space) (k : Ram) (n : Frames) (t : T) (memory : Memory)
       → slot i.places.items at ≡ Some x → Reframes i.memory.ram k x i.memory.frames n
       → ((u : Translation) → held t u → held i.translator u)
-      → (i.active ≡ Some at → HoldsNothing (held t)) → pages_of k x ≡ memory
+      → (i.loaded ≡ Some at → HoldsNothing (held t)) → pages_of k x ≡ memory
       → Placed held i (record i { memory = with_holders k n; translator = t }) at (Some (view_with memory x.size))
   reframed-showing at x k n t memory e r fewer fenced pages =
       placed-as at (changed at x x t e (same-place i.places.items at x e) r.space r.trades refl fewer
@@ -310,6 +359,7 @@ pub record IsParts {T U : Type 0} (held : U → Held) (i : Inside T) (j : Inside
   pub places : j.places ≡ i.places
   pub hart : j.hart ≡ i.hart
   pub active : j.active ≡ i.active
+  pub loaded : j.loaded ≡ i.loaded
   pub pipes : j.pipes ≡ i.pipes
   pub fenced : HoldsNothing (held j.translator)
 
@@ -321,17 +371,18 @@ parts-sound old new i j is spaces = record {
       is.memory.frames
       spaces.machine);
   all = rw is.places spaces.all;
-  active = rw (is.memory.ram, is.places, is.hart, is.active)
-      (still-active (old i.translator) (new j.translator) i.memory.ram i.memory.ram i.hart.root.0 i.places.items
+  loaded = rw (is.memory.ram, is.places, is.hart, is.loaded)
+      (still-loaded (old i.translator) (new j.translator) i.memory.ram i.memory.ram i.hart.root.0 i.places.items
       i.places.items
-      i.active
+      i.loaded
       (λ k a run. record {
         space = run.space;
         stands = run.stands;
         same = run.same;
         coherent = coherent-nothing (new j.translator) run.space.root.0 (entries_of i.memory.ram run.space) is.fenced;
       })
-      spaces.active);
+      spaces.loaded);
+  active = rw (is.active, is.loaded) spaces.active;
   inside = λ t held. absurd (is.fenced t held);
   pipes = rw is.pipes spaces.pipes;
   both = rw is.pipes spaces.both;

@@ -57,15 +57,21 @@ pub record Runs (held : translation.Held) (m : List (List ℕ)) (root : ℕ) (pl
   pub same : root ≡ space.root.0
   pub coherent : IsCoherent held space.root.0 (entries_of m space)
 
-abbrev pub IsActive : translation.Held → List (List ℕ) → ℕ → List (Option Space) → Option ℕ → Type 0
-IsActive held m root places None = Unit {0}
-IsActive held m root places (Some at) = Runs held m root places at
+abbrev pub IsLoaded : translation.Held → List (List ℕ) → ℕ → List (Option Space) → Option ℕ → Type 0
+IsLoaded held m root places None = Unit {0}
+IsLoaded held m root places (Some at) = Runs held m root places at
 
--- The spaces, the pipes and the free list share out all frames, and the hart runs the active slot.
+-- the active slot, if there is one, is loaded
+abbrev pub IsActive : Option ℕ → Option ℕ → Type 0
+IsActive None loaded = Unit {0}
+IsActive (Some at) loaded = loaded ≡ Some at
+
+-- The spaces, the pipes and the free list share out all frames, and the hart has the tables of the loaded slot.
 pub record IsSpaces {T : Type 0} (held : T → translation.Held) (k : Inside T) : Type 0 where
   pub machine : IsMachine k.memory.ram k.memory.frames k.places.items (pipe_frames k.pipes.items)
   pub all : length k.places.items ≡ 64
-  pub active : IsActive (held k.translator) k.memory.ram k.hart.root.0 k.places.items k.active
+  pub loaded : IsLoaded (held k.translator) k.memory.ram k.hart.root.0 k.places.items k.loaded
+  pub active : IsActive k.active k.loaded
   pub inside : HoldsInside (held k.translator) k.memory.ram
   pub pipes : length k.pipes.items ≡ 100
   pub both : (q : ℕ) (p : Pipe) → slot k.pipes.items q ≡ Some p → IsOpen p

@@ -8,10 +8,12 @@
 //!
 //! Spaces may share frames: a copy has those of its source, and a page gets a frame of its own before it is written.
 //!
-//! A translator may hold translations, so it is fenced where one that it may hold for the active slot goes: where
-//! another space becomes the active one, and where the active one shrinks, is copied, so that its pages are closed, or
-//! is written where a page may get another frame. A space that grows keeps the frames that it had, one that is written
-//! at an open page does, and what is held for spaces that aren't active doesn't count.
+//! The slot that was the active one last stays loaded: the hart keeps the tables of its space.
+//!
+//! A translator may hold translations, so it is fenced where one that it may hold for the loaded slot goes: where
+//! another slot is loaded, and where the loaded one shrinks, is copied, so that its pages are closed, or is written
+//! where a page may get another frame. A space that grows keeps the frames that it had, one that is written at an open
+//! page does, and what is held for spaces that aren't loaded doesn't count.
 #![tactic(auto)]
 
 ghost use Rattle.std.specs.Prelude.{◌≡◌, ◌≢◌, List, ◌+◌, ◌-◌, ◌++◌, ◌<◌, ◌≤◌, ◌/◌, ◌%◌, ℕ, [], All, Some, None, true};
@@ -73,6 +75,8 @@ pub struct Spaces<T: Translate> {
     hart: Hart,
     decoded: Decoded,
     active: Option<usize>,
+    // The slot whose tables the hart has: the active one, or the one that was it last.
+    loaded: Option<usize>,
     pipes: ArrayVec<Option<Pipe>, 100>,
 }
 
@@ -88,14 +92,33 @@ impl<T: Translate> Model for Spaces<T> {
     ghost invariant = { IsSpaces T.held };
 }
 
-// Fences a translator where this slot is the active one.
-fn fence_active<T: Translate>(translator: &mut T, active: Option<usize>, at: usize)
-    ensures fenced { active ≡ Some at → HoldsNothing (T.held translator.new) }
+// Fences a translator where this slot is loaded.
+fn fence_loaded<T: Translate>(translator: &mut T, loaded: Option<usize>, at: usize)
+    ensures fenced { loaded ≡ Some at → HoldsNothing (T.held translator.new) }
     ensures fewer { (t : Translation) → T.held translator.new t → T.held translator.old t }
 {
-    if active == Some(at) {
+    if loaded == Some(at) {
         translator.fence();
     }
+}
+
+// Fences a translator where this slot is to be loaded, and isn't.
+fn load<T: Translate>(translator: &mut T, loaded: Option<usize>, at: usize)
+    ensures fenced { loaded ≢ Some at → HoldsNothing (T.held translator.new) }
+    ensures fewer { (t : Translation) → T.held translator.new t → T.held translator.old t }
+{
+    if loaded != Some(at) {
+        translator.fence();
+    }
+}
+
+// The slot that is loaded once a slot loses its space.
+fn still_loaded(loaded: Option<usize>, at: usize) -> Option<usize>
+    ensures gone { result ≢ Some at }
+    ensures same { IfSome result (λ slot. loaded ≡ Some slot) }
+    ensures others { (slot : ℕ) → slot ≢ at → loaded ≡ Some slot → result ≡ Some slot }
+{
+    if loaded == Some(at) { None } else { loaded }
 }
 
 // The root of a space, from which walks reach its pages.
@@ -261,6 +284,7 @@ impl<T: Translate> Spaces<T> {
             },
             decoded,
             active: None,
+            loaded: None,
             pipes: ArrayVec::from_array_in((), [None; PIPES]),
         })
     }
@@ -288,6 +312,7 @@ impl<T: Translate> Spaces<T> {
             hart: self.hart.duplicate(),
             decoded,
             active: self.active,
+            loaded: self.loaded,
             pipes: duplicate_pipes(&self.pipes),
         })
     }
@@ -304,6 +329,7 @@ impl<T: Translate> Spaces<T> {
         self.places = duplicate_places(&source.places);
         self.hart = source.hart.duplicate();
         self.active = source.active;
+        self.loaded = source.loaded;
         self.pipes = duplicate_pipes(&source.pipes);
     }
 
@@ -456,7 +482,7 @@ impl<T: Translate> Spaces<T> {
     /// changed.
     ///
     /// The two share their frames, each page counted in full, and their pages are marked as those of a fork. The pages
-    /// of the source are closed then, so there is a fence where it is the active one.
+    /// of the source are closed then, so there is a fence where it is loaded.
     pub fn copy(&mut self, from: usize, to: usize) -> bool
         requires from { has_space self.old from ≡ true }
         requires inside { to < 64 }
@@ -468,7 +494,7 @@ impl<T: Translate> Spaces<T> {
         match space.copy(&mut self.memory) {
             Ok(space) => {
                 self.places[to] = Some(space);
-                fence_active(&mut self.translator, self.active, from);
+                fence_loaded(&mut self.translator, self.loaded, from);
                 true
             }
             Err(_) => false,
@@ -481,6 +507,7 @@ impl<T: Translate> Spaces<T> {
         requires idle { self.old.active ≢ Some at }
         ensures { self.new ≡ with_place self.old at None }
     {
+        self.loaded = still_loaded(self.loaded, at);
         let space = self.places[at].take().unwrap();
         space.destroy(&mut self.memory);
     }
@@ -508,7 +535,7 @@ impl<T: Translate> Spaces<T> {
     {
         let space = self.places[at].as_mut().unwrap();
         space.shrink(&mut self.memory, bytes);
-        fence_active(&mut self.translator, self.active, at);
+        fence_loaded(&mut self.translator, self.loaded, at);
     }
 
     /// Writes bytes into the pages of a slot from an address on, whatever their marks, as a loader does.
@@ -545,7 +572,7 @@ impl<T: Translate> Spaces<T> {
     {
         let space = space_at(&self.places, at);
         space.fill(&mut self.memory, address, bytes);
-        fence_active(&mut self.translator, self.active, at);
+        fence_loaded(&mut self.translator, self.loaded, at);
     }
 
     /// Copies bytes to an address of a slot. `false`: its program may not write them all; then nothing changed.
@@ -601,7 +628,8 @@ impl<T: Translate> Spaces<T> {
         self.copy_string(at, address, buffer)
     }
 
-    /// Makes a slot the active one: the hart takes these registers, this pc and the tables of the slot's space.
+    /// Makes a slot the active one: the hart takes these registers, this pc and the tables of the slot's space. What
+    /// the translator holds stays where the slot was the active one last.
     pub fn activate(&mut self, at: usize, registers: &[u64; 32], pc: u64)
         requires space { has_space self.old at ≡ true }
         requires zero { slice_index registers.now 0 ≡ 0 }
@@ -609,13 +637,14 @@ impl<T: Translate> Spaces<T> {
         ensures { self.new ≡ record self.old { active = Some at; registers = registers.now; pc = pc } }
     {
         let root = space_at(&self.places, at).root();
+        load(&mut self.translator, self.loaded, at);
+        self.loaded = Some(at);
+        self.active = Some(at);
         self.hart = Hart {
             registers: *registers,
             pc,
             root,
         };
-        self.translator.fence();
-        self.active = Some(at);
     }
 
     /// No slot is active: the hart runs nothing, and keeps its registers.

@@ -1,6 +1,6 @@
 use Rattle.spaces.proofs.Spaces.copy.Given as given
 use Rattle.spaces.proofs.Spaces.copy.Goals as goal
-use Rattle.spaces.proofs.Spaces.copy.Goals.{After-fence_active}
+use Rattle.spaces.proofs.Spaces.copy.Goals.{After-fence_loaded}
 use Rattle.spaces.proofs.Places.{stands-there}
 use Rattle.spaces.proofs.Shown.{Shows, set_in}
 use Rattle.spaces.proofs.Traded.{over-forked, shared-there}
@@ -12,24 +12,24 @@ space_at-space-requires g c = stands-there c.self.inside c.args.from (rw (← c.
 pub copy-requires : goal.copy-requires
 copy-requires g c = c.self.invariant.machine.each c.args.from c.space_at-space.result.now c.space_at-space.ensures
 
-made : (g : given.Over) (c : After-fence_active g)
+made : (g : given.Over) (c : After-fence_loaded g)
     → Shows g.T.Translate.held c.self.inside
-    (set_in c.self.inside c.copy.new.memory c.fence_active.new.translator c.deref_mut.result.now c.args.to
+    (set_in c.self.inside c.copy.new.memory c.fence_loaded.new.translator c.deref_mut.result.now c.args.to
     (Some c.in-Ok.space)) (copied (spaces_of c.self.inside) c.args.from c.args.to)
 made g c =
     let there = c.in-Ok.ensures.copies in
     shared-there c.self.invariant c.args.from c.args.to c.space_at-space.result.now c.in-Ok.space
-    c.fence_active.new.translator c.requires.inside (rw (← c.self.view_is) at c.requires.free)
+    c.fence_loaded.new.translator c.requires.inside (rw (← c.self.view_is) at c.requires.free)
     c.deref_mut.ensures.value c.space_at-space.ensures
-    there.source there.space there.trades c.fence_active.ensures.fewer c.fence_active.ensures.fenced there.marked
+    there.source there.space there.trades c.fence_loaded.ensures.fewer c.fence_loaded.ensures.fenced there.marked
     there.pages there.size
 
 pub invariant_of-self : goal.invariant_of-self
-invariant_of-self g c = (made g (goal.at.invariant_of-self g c).After-fence_active).sound
+invariant_of-self g c = (made g (goal.at.invariant_of-self g c).After-fence_loaded).sound
 
 pub returns-in-Ok-clause-done : goal.returns-in-Ok-clause-done
 returns-in-Ok-clause-done g c =
-    let all = made g (goal.at.returns-in-Ok-clause-done g c).After-fence_active in
+    let all = made g (goal.at.returns-in-Ok-clause-done g c).After-fence_loaded in
     rw (← c.self.view_is) (all.fits, all.view)
 
 pub returns-in-Err-clause-refused : goal.returns-in-Err-clause-refused

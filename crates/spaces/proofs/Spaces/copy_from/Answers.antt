@@ -16,6 +16,7 @@ invariant_of-self g c = parts-sound g.U.Translate.held g.T.Translate.held c.sour
   places = c.duplicate_places-self-inside.ensures;
   hart = c.duplicate-self-inside.ensures;
   active = refl;
+  loaded = refl;
   pipes = c.duplicate_pipes-self-inside.ensures;
   fenced = c.fence.ensures;
 } c.source.invariant

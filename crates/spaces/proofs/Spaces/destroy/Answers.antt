@@ -3,7 +3,7 @@ use Rattle.spaces.proofs.Spaces.destroy.Goals as goal
 use Rattle.spaces.proofs.Spaces.destroy.Goals.{After-destroy}
 use Rattle.spaces.proofs.Places.{there}
 use Rattle.spaces.proofs.Shown.{Placed, set_in}
-use Rattle.spaces.proofs.Traded.{destroyed}
+use Rattle.spaces.proofs.Traded.{destroyed, less-loaded}
 use Rattle.std.proofs.Common.{None, sym, ◌∙◌}
 
 pub destroy-requires : goal.destroy-requires
@@ -11,14 +11,16 @@ destroy-requires g c = c.self.invariant.machine.each c.args.at c.unwrap-space.re
     (there c.args.at c.deref_mut.ensures.value (sym c.take.ensures.value ∙ c.unwrap-space.ensures))
 
 gone : (g : given.Over) (c : After-destroy g)
-    → Placed g.T.Translate.held c.self.inside
-    (set_in c.self.inside c.destroy.new.memory c.self.inside.translator c.deref_mut.result.now
-    c.args.at c.take.new.self) c.args.at None
+    → Placed g.T.Translate.held (record c.self.inside { loaded = c.still_loaded-self-inside.result })
+    (set_in (record c.self.inside { loaded = c.still_loaded-self-inside.result }) c.destroy.new.memory
+    c.self.inside.translator c.deref_mut.result.now c.args.at c.take.new.self) c.args.at None
 gone g c =
-    destroyed c.self.invariant c.args.at c.unwrap-space.result
+    let still = c.still_loaded-self-inside in
+    let idle = rw (← c.self.view_is) at c.requires.idle in
+    let is = less-loaded c.self.invariant c.args.at still.result still.ensures.same still.ensures.others idle in
+    destroyed is c.args.at c.unwrap-space.result
     (there c.args.at c.deref_mut.ensures.value (sym c.take.ensures.value ∙ c.unwrap-space.ensures))
-    (rw (← c.self.view_is) at c.requires.idle) c.deref_mut.ensures.value c.take.ensures.after
-    c.destroy.ensures.valid c.destroy.ensures.trades
+    still.ensures.gone c.deref_mut.ensures.value c.take.ensures.after c.destroy.ensures.valid c.destroy.ensures.trades
 
 pub invariant_of-self : goal.invariant_of-self
 invariant_of-self g c = (gone g (goal.at.invariant_of-self g c).After-destroy).sound

@@ -8,6 +8,7 @@ invariant_of-result g c = parts-sound g.T.Translate.held g.U.Translate.held c.se
   places = c.duplicate_places.ensures;
   hart = c.duplicate-2.ensures;
   active = refl;
+  loaded = refl;
   pipes = c.duplicate_pipes.ensures;
   fenced = c.fence.ensures;
 } c.self.invariant

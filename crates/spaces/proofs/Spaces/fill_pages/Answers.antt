@@ -18,18 +18,18 @@ fill-requires g c =
           at c.requires.inside;
     }
 
-filled : (g : given.Over) (c : goal.After-fence_active g)
+filled : (g : given.Over) (c : goal.After-fence_loaded g)
     → Placed g.T.Translate.held c.self.inside
     (record c.self.inside {
       memory = c.fill.new.memory;
-      translator = c.fence_active.new.translator;
+      translator = c.fence_loaded.new.translator;
     }) c.args.at
     (Some (view_with (write_bytes (pages_of c.self.inside.memory.ram c.space_at-space.result.now) c.args.address
     c.args.bytes.now) c.space_at-space.result.now.size))
 filled g c = reframed-showing c.self.invariant c.args.at c.space_at-space.result.now c.fill.new.memory.ram
     c.fill.new.memory.frames
-    c.fence_active.new.translator _ c.space_at-space.ensures c.fill.ensures.frames c.fence_active.ensures.fewer
-    c.fence_active.ensures.fenced c.fill.ensures.written
+    c.fence_loaded.new.translator _ c.space_at-space.ensures c.fill.ensures.frames c.fence_loaded.ensures.fewer
+    c.fence_loaded.ensures.fenced c.fill.ensures.written
 
 pub invariant_of-self : goal.invariant_of-self
 invariant_of-self g c = (filled g c).sound

@@ -6,6 +6,7 @@ invariant_of-result-2 g c = record {
   machine = rw (c.from_array_in-2.ensures.items, none-flat frames_at 100 refl, c.from_array_in.ensures.items)
       (machine-new _ _ 64 c.in_ok-memory.ensures.valid c.in_ok-memory.ensures.shared);
   all = c.from_array_in.ensures.len;
+  loaded = tt;
   active = tt;
   inside = λ t h. absurd (c.fence.ensures t h);
   pipes = c.from_array_in-2.ensures.len;

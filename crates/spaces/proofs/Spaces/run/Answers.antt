@@ -24,6 +24,7 @@ invariant_of-self g c =
     record {
       machine = now.machine;
       all = now.all;
+      loaded = now.loaded;
       active = now.active;
       inside = now.inside;
       pipes = now.pipes;
