@@ -1,10 +1,11 @@
-pub mod Sizes
+pub mod Acts
+pub mod Answered
 pub mod Changes
+pub mod Checked
 pub mod Follows
 pub mod Known
-pub mod Answered
 pub mod Operations
-pub mod Acts
 pub mod Runs
+pub mod Sizes
 pub mod Stops
-pub mod Checked
+pub mod Visits

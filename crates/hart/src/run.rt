@@ -10,10 +10,11 @@ ghost use Rattle.unixmodel.specs.Words.{instruction_of};
 ghost use Rattle.sv39.specs.Mapping.{Mapped, frame_for};
 ghost use Rattle.hart.specs.Acts.{Acts, IsLive, KeepsLive, goes_to, trap_of};
 ghost use Rattle.hart.specs.Answered.{word_by};
-ghost use Rattle.hart.specs.Checked.{AreChecked, AreNow, StayLive};
+ghost use Rattle.hart.specs.Checked.{AreNow};
 ghost use Rattle.hart.specs.Operations.{op_by};
-ghost use Rattle.hart.specs.Runs.{GoesOn, MovesOn, StaysWhole, point_at, point_of};
-ghost use Rattle.hart.specs.Stops.{AreFree, EndsAt, IsBehind, IsClear, is_stop, pc_at};
+ghost use Rattle.hart.specs.Runs.{GoesOn, MovesOn, StaysWhole, point_at};
+ghost use Rattle.hart.specs.Stops.{AreFree, IsClear, is_stop, pc_at};
+ghost use Rattle.hart.specs.Visits.{MayVisit, RunsOn, Visits};
 
 use crate::access::locate;
 use crate::act::{Aligned, Next};
@@ -246,23 +247,11 @@ impl Hart {
         count: u32,
         stops: &S,
     ) -> (u32, Option<Trap>)
-        requires inside { HoldsInside (T.held trans.old) ram.old }
-        requires frame { f.0 < length ram.old }
+        requires can { MayVisit (T.held trans.old) ram.old f.0 live.old.frames page.old }
         requires least { (LEAST ≡ 1) ⊎ ((LEAST ≡ 64) × (S.addresses stops.now ≡ [])) }
         requires some { LEAST ≤ count }
-        requires live { IsLive live.old.frames f.0 }
-        requires checked { AreChecked page.old.words ram.old f.0 page.old.parts }
-        ensures checked { AreChecked page.new.words ram.new f.0 page.new.parts }
-        ensures others { StayLive f.0 live.old.frames live.new.frames ram.old ram.new }
-        ensures goes { (mapping : List Mapped) → frame_for mapping (self.old.pc / 4096) Access.Fetch ≡ Some f.0 →
-            GoesOn (T.held trans.old) (T.held trans.new) self.old.root.0 mapping (S.addresses stops.now)
-            (point_of self.old ram.old) (point_of self.new ram.new) (count - result.0) result.1 }
-        ensures whole { StaysWhole (T.held trans.new) self.old self.new ram.old ram.new }
-        ensures within { result.0 ≤ count }
-        ensures fewer { IfNone result.1 (result.0 < count) }
-        ensures trap { IfSome result.1 (λ t. 0 < result.0) }
-        ensures behind { IfSome result.1
-            (λ t. IsBehind (S.addresses stops.now) (count - result.0) self.old.pc self.new.pc) }
+        ensures { Visits (T.held trans.old) (T.held trans.new) (S.addresses stops.now) page.new f.0 live.old.frames
+            live.new.frames self.old self.new ram.old ram.new count result.0 result.1 }
     {
         // worked out here, where the compiler then knows that its low bits are 0
         let base = self.pc / 4096 * 4096;
@@ -307,22 +296,10 @@ impl Hart {
         count: u32,
         stops: &S,
     ) -> (u32, Option<Trap>)
-        requires inside { HoldsInside (T.held trans.old) ram.old }
-        requires frame { f.0 < length ram.old }
+        requires can { MayVisit (T.held trans.old) ram.old f.0 live.old.frames page.old }
         requires some { 0 < count }
-        requires live { IsLive live.old.frames f.0 }
-        requires checked { AreChecked page.old.words ram.old f.0 page.old.parts }
-        ensures checked { AreChecked page.new.words ram.new f.0 page.new.parts }
-        ensures others { StayLive f.0 live.old.frames live.new.frames ram.old ram.new }
-        ensures goes { (mapping : List Mapped) → frame_for mapping (self.old.pc / 4096) Access.Fetch ≡ Some f.0 →
-            GoesOn (T.held trans.old) (T.held trans.new) self.old.root.0 mapping (S.addresses stops.now)
-            (point_of self.old ram.old) (point_of self.new ram.new) (count - result.0) result.1 }
-        ensures whole { StaysWhole (T.held trans.new) self.old self.new ram.old ram.new }
-        ensures within { result.0 ≤ count }
-        ensures fewer { IfNone result.1 (result.0 < count) }
-        ensures trap { IfSome result.1 (λ t. 0 < result.0) }
-        ensures behind { IfSome result.1
-            (λ t. IsBehind (S.addresses stops.now) (count - result.0) self.old.pc self.new.pc) }
+        ensures { Visits (T.held trans.old) (T.held trans.new) (S.addresses stops.now) page.new f.0 live.old.frames
+            live.new.frames self.old self.new ram.old ram.new count result.0 result.1 }
     {
         if stops.is_empty() && count as usize >= PART {
             return self.run_page::<T, S, PART>(page, f, live, ram, trans, count, stops);
@@ -342,14 +319,8 @@ impl Hart {
         stops: &S,
     ) -> (u32, Option<Trap>)
         requires { HoldsInside (T.held trans.old) ram.old }
-        ensures goes { (mapping : List Mapped)
-            → GoesOn (T.held trans.old) (T.held trans.new) self.old.root.0 mapping (S.addresses stops.now)
-            (point_of self.old ram.old) (point_of self.new ram.new) result.0 result.1 }
-        ensures whole { StaysWhole (T.held trans.new) self.old self.new ram.old ram.new }
-        ensures within { result.0 ≤ count }
-        ensures ends { IfNone result.1 (EndsAt (S.addresses stops.now) count result.0 self.new.pc) }
-        ensures trap { IfSome result.1 (λ t. result.0 < count) }
-        ensures behind { IfSome result.1 (λ t. IsBehind (S.addresses stops.now) result.0 self.old.pc self.new.pc) }
+        ensures { RunsOn (T.held trans.old) (T.held trans.new) (S.addresses stops.now) self.old self.new ram.old ram.new
+            count result.0 result.1 }
     {
         self.run_pages(ram, trans, &mut decoded.pages, count, stops)
     }
@@ -367,14 +338,8 @@ impl Hart {
         requires inside { HoldsInside (T.held trans.old) ram.old }
         requires many { vec_len pages.old.all ≡ 128 }
         ensures many { vec_len pages.new.all ≡ 128 }
-        ensures goes { (mapping : List Mapped)
-            → GoesOn (T.held trans.old) (T.held trans.new) self.old.root.0 mapping (S.addresses stops.now)
-            (point_of self.old ram.old) (point_of self.new ram.new) result.0 result.1 }
-        ensures whole { StaysWhole (T.held trans.new) self.old self.new ram.old ram.new }
-        ensures within { result.0 ≤ count }
-        ensures ends { IfNone result.1 (EndsAt (S.addresses stops.now) count result.0 self.new.pc) }
-        ensures trap { IfSome result.1 (λ t. result.0 < count) }
-        ensures behind { IfSome result.1 (λ t. IsBehind (S.addresses stops.now) result.0 self.old.pc self.new.pc) }
+        ensures runs { RunsOn (T.held trans.old) (T.held trans.new) (S.addresses stops.now) self.old self.new ram.old
+            ram.new count result.0 result.1 }
     {
         let mut live = Live::new();
         let mut left = count;

@@ -1,7 +1,7 @@
 use Rattle.hart.proofs.Common.{arith, GoesOn, goes_to, Hart, IsClear, List, Mapped, Fetch, frame_for, None, pc_at}
 use Rattle.hart.proofs.Common.{point_at, refl, Some, StayLive, trap_of, ℕ, ◌*◌, ◌+◌, ◌-◌, ◌/◌, ◌<◌, ◌≡◌, ◌≤◌}
 use Rattle.hart.proofs.Straight.{if-none, if-some, moves-some, pc-of, stops-early, stops-there}
-use Rattle.hart.proofs.Running.{left-begins, left-on, page-then, stop-behind}
+use Rattle.hart.proofs.Running.{left-begins, left-on, page-then, stop-behind, whole-then}
 use Rattle.hart.proofs.Stopping.{less-clear}
 use Rattle.hart.proofs.Pages.{stay-then}
 use Rattle.hart.proofs.state.Hart.run_page.Given as given
@@ -44,7 +44,7 @@ stayed g c frames = stay-then c.args.f.0 c.args.live.now.frames c.jump.live.fram
 
 pub jump-init : goal.jump-init
 jump-init g c = record {
-  goes = left-begins _ _ c.requires.inside
+  goes = left-begins _ _ c.requires.can.inside
       (pc-of (omega arith) c.args.self.now.aligned (refl) refl) (omega arith);
   below = omega arith;
   counted = omega arith;
@@ -56,8 +56,8 @@ jump-init g c = record {
   };
   since = omega arith;
   before = omega arith;
-  checked = c.requires.checked;
-  live = c.requires.live;
+  checked = c.requires.can.checked;
+  live = c.requires.can.live;
   others = λ h fits other live. (live, λ k. refl);
 }
 
@@ -92,45 +92,47 @@ jump-preserved g c =
       others = stayed g after c.heed.new.live.frames (c.heed.ensures.others _ c.straight-done.ensures.words);
     }
 
-pub returns-in_default-clause-goes : goal.returns-in_default-clause-goes
-returns-in_default-clause-goes g c =
-    let after = (goal.at.returns-in_default-clause-goes g c).After-straight-done in
-    rw (c.trap.ensures, c.address-self.ensures)
-    (page-then c.straight-done.new.self c.straight-done.result.0 _ c.jump.k
-    (goes_to (pc_at (page_of c.args.self.now) (c.jump.k + c.straight-done.result.0)) c.straight-done.result.1)
-    c.straight-done.new.ram (trap_of c.straight-done.result.1) c.jump.invariant.goes refl refl
-    (omega (arith, c.straight-done.ensures.within, c.end_of-end.ensures.left)) (went g after))
+pub returns-in_default : goal.returns-in_default
+returns-in_default g c =
+    let after = (goal.at.returns-in_default g c).After-straight-done in
+    let done = c.straight-done.result.0 in
+    let next = c.straight-done.result.1 in
+    let base = page_of c.args.self.now in
+    let whole = whole-then c.jump.invariant.goes.whole c.straight-done.ensures.whole in
+    record {
+      checked = c.heed.ensures.checked _ c.straight-done.ensures.words c.reach-part.ensures.checked;
+      others = stayed g after c.heed.new.live.frames (c.heed.ensures.others _ c.straight-done.ensures.words);
+      goes = rw (c.trap.ensures, c.address-self.ensures)
+          (page-then c.straight-done.new.self done _ c.jump.k (goes_to (pc_at base (c.jump.k + done)) next)
+          c.straight-done.new.ram (trap_of next) c.jump.invariant.goes refl refl
+          (omega (arith, c.straight-done.ensures.within, c.end_of-end.ensures.left)) (went g after));
+      whole = record { inside = whole.inside; count = whole.count; root = whole.root };
+      within = omega (arith, c.jump.invariant.counted);
+      fewer = rw c.trap.ensures (if-none _ _ (λ none.
+          let more = some g after none in
+          omega (arith, more, c.straight-done.ensures.within, c.end_of-end.ensures.left, c.jump.invariant.counted)));
+      trap = rw c.trap.ensures (if-some _ _ (λ t stopped.
+          let early = stops-early next c.straight-done.ensures.moves stopped in
+          omega (arith, early, c.end_of-end.ensures.left)));
+      behind = rw c.trap.ensures (if-some _ _ (λ t stopped.
+          let early = stops-early next {words = c.end_of-end.result - c.jump.k} c.straight-done.ensures.moves stopped in
+          rw (c.address-self.ensures, stops-there next stopped)
+          (stop-behind base c.jump.k c.end_of-end.result done _ c.jump.invariant.goes refl early
+          (omega (arith, c.straight-done.ensures.within, c.end_of-end.ensures.left))
+          (clear g after c.end_of-end.result (omega arith)))));
+    }
 
-pub returns-in_default-clause-checked : goal.returns-in_default-clause-checked
-returns-in_default-clause-checked g c =
-    c.heed.ensures.checked _ c.straight-done.ensures.words c.reach-part.ensures.checked
-
-pub returns-in_default-clause-others : goal.returns-in_default-clause-others
-returns-in_default-clause-others g c =
-    stayed g (goal.at.returns-in_default-clause-others g c).After-straight-done c.heed.new.live.frames
-    (c.heed.ensures.others _ c.straight-done.ensures.words)
-
-pub returns-in_default-clause-fewer : goal.returns-in_default-clause-fewer
-returns-in_default-clause-fewer g c = rw c.trap.ensures (if-none _ _ (λ none.
-    let more = some g (goal.at.returns-in_default-clause-fewer g c).After-straight-done none in
-    omega (arith, more, c.straight-done.ensures.within, c.end_of-end.ensures.left, c.jump.invariant.counted)))
-
-pub returns-in_default-clause-trap : goal.returns-in_default-clause-trap
-returns-in_default-clause-trap g c = rw c.trap.ensures (if-some _ _ (λ t stopped.
-    let early = stops-early c.straight-done.result.1 c.straight-done.ensures.moves stopped in
-    omega (arith, early, c.end_of-end.ensures.left)))
-
-pub returns-in_default-clause-behind : goal.returns-in_default-clause-behind
-returns-in_default-clause-behind g c =
-    let after = (goal.at.returns-in_default-clause-behind g c).After-straight-done in
-    rw c.trap.ensures (if-some _ _ (λ t stopped.
-    let early = stops-early c.straight-done.result.1 {words = c.end_of-end.result - c.jump.k}
-    c.straight-done.ensures.moves stopped in
-    rw (c.address-self.ensures, stops-there c.straight-done.result.1 stopped)
-    (stop-behind (page_of c.args.self.now) c.jump.k c.end_of-end.result c.straight-done.result.0 _
-    c.jump.invariant.goes refl
-    early (omega (arith, c.straight-done.ensures.within, c.end_of-end.ensures.left))
-    (clear g after c.end_of-end.result (omega arith)))))
-
-pub returns-clause-goes : goal.returns-clause-goes
-returns-clause-goes g c = c.jump.invariant.goes.goes
+pub returns : goal.returns
+returns g c =
+    let before = c.jump.invariant in
+    let whole = before.goes.whole in
+    record {
+      checked = before.checked;
+      others = before.others;
+      goes = before.goes.goes;
+      whole = record { inside = whole.inside; count = whole.count; root = whole.root };
+      within = omega (arith, before.counted);
+      fewer = omega (arith, c.jump-test.false, c.requires.some);
+      trap = tt;
+      behind = tt;
+    }

@@ -23,14 +23,16 @@ ran g c stopped is mapping =
     c.in-Some.f.0 stopped before.behind refl before.bounded c.visit-rest.ensures.within refl
     (λ others at. rw is at (c.visit-rest.ensures.goes others at))
 
-pub visit-rest-requires-clause-inside : goal.visit-rest-requires-clause-inside
-visit-rest-requires-clause-inside g c = inside-kept _ c.loop-left.invariant.whole.inside c.locate.ensures.kept
-
-pub visit-rest-requires-clause-checked : goal.visit-rest-requires-clause-checked
-visit-rest-requires-clause-checked g c = rw c.index_mut-page.ensures.value
-    (c.place-at.ensures.known c.loop-left.ram c.loop-left.invariant.known c.in-Some.f.0
-    (omega (arith, c.in-Some.ensures.inside, c.frames_are_whole.ensures.small)) c.place-at.ensures.live
-    c.place-at.result c.place-at.ensures.page _)
+pub visit-rest-requires-clause-can : goal.visit-rest-requires-clause-can
+visit-rest-requires-clause-can g c = record {
+  inside = inside-kept _ c.loop-left.invariant.whole.inside c.locate.ensures.kept;
+  frame = c.in-Some.ensures.inside;
+  live = c.place-at.ensures.live;
+  checked = rw c.index_mut-page.ensures.value
+      (c.place-at.ensures.known c.loop-left.ram c.loop-left.invariant.known c.in-Some.f.0
+      (omega (arith, c.in-Some.ensures.inside, c.frames_are_whole.ensures.small)) c.place-at.ensures.live
+      c.place-at.result c.place-at.ensures.page _);
+}
 
 pub loop-left-init : goal.loop-left-init
 loop-left-init g c = record {
@@ -59,43 +61,69 @@ loop-left-preserved g c =
       goes = ran g (goal.at.loop-left-preserved g c).After-visit-rest None c.in_default-stopped.is;
     }
 
-pub returns-in_default-clause-goes : goal.returns-in_default-clause-goes
-returns-in_default-clause-goes g c = λ mapping.
-    run-faults (g.T.Translate.held c.args.trans.now) (g.T.Translate.held c.locate.new.trans)
-    (c.args.count - c.loop-left.left) mapping c.loop-left.invariant.whole (c.loop-left.invariant.goes mapping)
-    c.locate.ensures.kept {o = None} c.in_default.ensures.answer refl
-
-pub returns-in_default-clause-whole : goal.returns-in_default-clause-whole
-returns-in_default-clause-whole g c = record {
-  inside = inside-kept _ c.loop-left.invariant.whole.inside c.locate.ensures.kept;
-  count = c.loop-left.invariant.whole.count;
-  root = c.loop-left.invariant.whole.root;
-}
-
-pub returns-in-Some-stopped-clause-goes : goal.returns-in-Some-stopped-clause-goes
-returns-in-Some-stopped-clause-goes g c =
-    ran g (goal.at.returns-in-Some-stopped-clause-goes g c).After-visit-rest (Some c.in-Some-stopped.trap)
-    c.in-Some-stopped.is
-
-pub returns-in-Some-stopped-clause-behind : goal.returns-in-Some-stopped-clause-behind
-returns-in-Some-stopped-clause-behind g c =
+pub returns-in_default-clause-runs : goal.returns-in_default-clause-runs
+returns-in_default-clause-runs g c =
     let before = c.loop-left.invariant in
+    record {
+      goes = λ mapping.
+          run-faults (g.T.Translate.held c.args.trans.now) (g.T.Translate.held c.locate.new.trans)
+          (c.args.count - c.loop-left.left) mapping before.whole (before.goes mapping) c.locate.ensures.kept {o = None}
+          c.in_default.ensures.answer refl;
+      whole = record {
+        inside = inside-kept _ before.whole.inside c.locate.ensures.kept;
+        count = before.whole.count;
+        root = before.whole.root;
+      };
+      within = omega arith;
+      ends = tt;
+      trap = omega (arith, c.loop-left-test.true, before.bounded);
+      behind = before.behind;
+    }
+
+pub returns-in-Some-stopped-clause-runs : goal.returns-in-Some-stopped-clause-runs
+returns-in-Some-stopped-clause-runs g c =
+    let before = c.loop-left.invariant in
+    let visit = c.visit-rest.ensures in
+    let some = rw c.in-Some-stopped.is at visit.trap in
     let sum : c.args.count - c.loop-left.left + (c.loop-left.left - c.visit-rest.result.0)
-    ≡ c.args.count - c.visit-rest.result.0 = omega (arith, before.bounded, c.visit-rest.ensures.within) in
-    rw (← sum) (behind-then _ before.behind (rw c.in-Some-stopped.is at c.visit-rest.ensures.behind))
+    ≡ c.args.count - c.visit-rest.result.0 = omega (arith, before.bounded, visit.within) in
+    record {
+      goes = ran g (goal.at.returns-in-Some-stopped-clause-runs g c).After-visit-rest (Some c.in-Some-stopped.trap)
+          c.in-Some-stopped.is;
+      whole = whole-then before.whole visit.whole;
+      within = omega arith;
+      ends = tt;
+      trap = omega (arith, some, visit.within, before.bounded);
+      behind = rw (← sum) (behind-then _ before.behind (rw c.in-Some-stopped.is at visit.behind));
+    }
 
-pub returns-then-has-clause-goes : goal.returns-then-has-clause-goes
-returns-then-has-clause-goes g c =
-    ran g (goal.at.returns-then-has-clause-goes g c).After-visit-rest None c.in_default-stopped.is
+pub returns-then-has-clause-runs : goal.returns-then-has-clause-runs
+returns-then-has-clause-runs g c =
+    let before = c.loop-left.invariant in
+    let visit = c.visit-rest.ensures in
+    let fewer = rw c.in_default-stopped.is at visit.fewer in
+    record {
+      goes = ran g (goal.at.returns-then-has-clause-runs g c).After-visit-rest None c.in_default-stopped.is;
+      whole = whole-then before.whole visit.whole;
+      within = omega arith;
+      ends = inr (omega (arith, before.bounded, fewer), sym c.if-has.ensures);
+      trap = tt;
+      behind = tt;
+    }
 
-pub returns-then-has-clause-ends : goal.returns-then-has-clause-ends
-returns-then-has-clause-ends g c =
-    let fewer = rw c.in_default-stopped.is at c.visit-rest.ensures.fewer in
-    inr (omega (arith, c.loop-left.invariant.bounded, fewer), sym c.if-has.ensures)
-
-pub returns-clause-goes : goal.returns-clause-goes
-returns-clause-goes g c = λ mapping.
+pub returns-clause-runs : goal.returns-clause-runs
+returns-clause-runs g c =
+    let before = c.loop-left.invariant in
     let all : c.args.count - c.loop-left.left ≡ c.args.count = omega (arith, c.loop-left-test.false) in
-    subst (λ x. GoesOn (g.T.Translate.held c.args.trans.now) (g.T.Translate.held c.loop-left.trans)
-    c.args.self.now.root.0 mapping (g.S.Stops.addresses c.args.stops.now) (point_of c.args.self.now c.args.ram.now)
-    (point_of c.loop-left.self c.loop-left.ram) x None) all (c.loop-left.invariant.goes mapping)
+    record {
+      goes = λ mapping.
+          subst (λ x. GoesOn (g.T.Translate.held c.args.trans.now) (g.T.Translate.held c.loop-left.trans)
+          c.args.self.now.root.0 mapping (g.S.Stops.addresses c.args.stops.now)
+          (point_of c.args.self.now c.args.ram.now) (point_of c.loop-left.self c.loop-left.ram) x None) all
+          (before.goes mapping);
+      whole = before.whole;
+      within = omega arith;
+      ends = inl refl;
+      trap = tt;
+      behind = tt;
+    }
