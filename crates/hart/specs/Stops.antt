@@ -1,5 +1,5 @@
 -- Addresses at which a run stops: it goes on from the one that it begins at, and no further than to the next.
-use Rattle.std.specs.Prelude.{Bool, List, false, true, ℕ, ◌*◌, ◌<◌, ◌==◌, ◌≤◌, ◌≡◌, ◌⊎◌}
+use Rattle.std.specs.Prelude.{Bool, List, [], false, true, ℕ, ◌*◌, ◌<◌, ◌==◌, ◌≤◌, ◌≡◌, ◌⊎◌}
 use Rattle.std.specs.List.{list_any}
 use Rattle.unixmodel.specs.Numbers.{plus}
 use Rattle.hart.specs.declared.stops.Known.{Known}
@@ -37,3 +37,17 @@ pub record AreFree (stops : List ℕ) (base : ℕ) (known : Known) : Type 0 wher
 -- as many are done as were requested, or the next one is at a stop
 abbrev pub EndsAt : List ℕ → ℕ → ℕ → ℕ → Type 0
 EndsAt stops count done pc = (done ≡ count) ⊎ ((0 < done) × (is_stop stops pc ≡ true))
+
+-- how few operations are done at once: one, or as many as a part has where there are no stops
+abbrev pub IsLeast : ℕ → List ℕ → Type 0
+IsLeast least stops = (least ≡ 1) ⊎ ((least ≡ 64) × (stops ≡ []))
+
+-- A run goes on at an index of the page at `base`, which has this address and is at no stop. It is in the first of two
+-- stretches without a stop.
+pub record IsOnward (stops : List ℕ) (base address : ℕ) (to : ℕ × Known) : Type 0 where
+  pub below : to.0 < 1024
+  pub at : pc_at base to.0 ≡ address
+  pub past : is_stop stops address ≡ false
+  pub free : AreFree stops base to.1
+  pub since : to.1.here.from ≤ to.0
+  pub before : to.0 < to.1.here.to

@@ -13,7 +13,7 @@ ghost use Rattle.hart.specs.Answered.{word_by};
 ghost use Rattle.hart.specs.Checked.{AreNow};
 ghost use Rattle.hart.specs.Operations.{op_by};
 ghost use Rattle.hart.specs.Runs.{GoesOn, MovesOn, StaysWhole, point_at};
-ghost use Rattle.hart.specs.Stops.{AreFree, IsClear, is_stop, pc_at};
+ghost use Rattle.hart.specs.Stops.{AreFree, IsClear, IsLeast, IsOnward, pc_at};
 ghost use Rattle.hart.specs.Visits.{MayVisit, RunsOn, Visits};
 
 use crate::access::locate;
@@ -59,10 +59,7 @@ fn index_in(base: u64, to: Aligned) -> Option<usize>
 fn goes_to_word<S: Stops>(stops: &S, base: u64, to: Aligned, known: Known) -> Option<(usize, Known)>
     requires page { base % 4096 ≡ 0 }
     requires known { AreFree (S.addresses stops.now) base known }
-    ensures at { IfSome result (λ r. (r.0 < 1024) × (pc_at base r.0 ≡ to)) }
-    ensures past { IfSome result (λ r. is_stop (S.addresses stops.now) to ≡ false) }
-    ensures free { IfSome result (λ r. AreFree (S.addresses stops.now) base r.1) }
-    ensures inside { IfSome result (λ r. (r.1.here.from ≤ r.0) × (r.0 < r.1.here.to)) }
+    ensures { IfSome result (IsOnward (S.addresses stops.now) base to) }
 {
     let index = index_in(base, to)?;
     let free = stops.free_at(base, index, known)?;
@@ -74,10 +71,7 @@ fn goes_to_word<S: Stops>(stops: &S, base: u64, to: Aligned, known: Known) -> Op
 fn goes_to_index<S: Stops>(stops: &S, base: u64, to: InPage, known: Known) -> Option<(usize, Known)>
     requires page { base % 4096 ≡ 0 }
     requires known { AreFree (S.addresses stops.now) base known }
-    ensures at { IfSome result (λ r. (r.0 < 1024) × (pc_at base r.0 ≡ pc_at to.base to.index)) }
-    ensures past { IfSome result (λ r. is_stop (S.addresses stops.now) (pc_at to.base to.index) ≡ false) }
-    ensures free { IfSome result (λ r. AreFree (S.addresses stops.now) base r.1) }
-    ensures inside { IfSome result (λ r. (r.1.here.from ≤ r.0) × (r.0 < r.1.here.to)) }
+    ensures { IfSome result (IsOnward (S.addresses stops.now) base (pc_at to.base to.index)) }
 {
     if to.base != base {
         return None;
@@ -100,10 +94,7 @@ fn onward<S: Stops>(
     requires known { AreFree (S.addresses stops.now) base known }
     requires from { trap_of next.now ≡ None → known.here.from ≤ k }
     ensures done { IfSome result (λ r. trap_of next.now ≡ None) }
-    ensures at { IfSome result (λ r. (r.0 < 1024) × (pc_at base r.0 ≡ goes_to (pc_at base k) next.now)) }
-    ensures past { IfSome result (λ r. is_stop (S.addresses stops.now) (goes_to (pc_at base k) next.now) ≡ false) }
-    ensures free { IfSome result (λ r. AreFree (S.addresses stops.now) base r.1) }
-    ensures inside { IfSome result (λ r. (r.1.here.from ≤ r.0) × (r.0 < r.1.here.to)) }
+    ensures on { IfSome result (IsOnward (S.addresses stops.now) base (goes_to (pc_at base k) next.now)) }
 {
     match *next {
         Next::Behind => within(k, known),
@@ -136,7 +127,7 @@ fn end_of<S: Stops, const LEAST: usize>(
     k: usize,
     left: usize,
 ) -> usize
-    requires least { (LEAST ≡ 1) ⊎ ((LEAST ≡ 64) × (S.addresses stops.now ≡ [])) }
+    requires least { IsLeast LEAST (S.addresses stops.now) }
     requires part { part ≡ k / 64 }
     requires some { (LEAST ≤ left) × (left < 2 ^ 32) }
     requires free { (free.here.from ≤ k + 1) × (k < free.here.to) }
@@ -248,7 +239,7 @@ impl Hart {
         stops: &S,
     ) -> (u32, Option<Trap>)
         requires can { MayVisit (T.held trans.old) ram.old f.0 live.old.frames page.old }
-        requires least { (LEAST ≡ 1) ⊎ ((LEAST ≡ 64) × (S.addresses stops.now ≡ [])) }
+        requires least { IsLeast LEAST (S.addresses stops.now) }
         requires some { LEAST ≤ count }
         ensures { Visits (T.held trans.old) (T.held trans.new) (S.addresses stops.now) page.new f.0 live.old.frames
             live.new.frames self.old self.new ram.old ram.new count result.0 result.1 }

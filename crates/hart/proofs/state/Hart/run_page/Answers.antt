@@ -80,13 +80,13 @@ jump-preserved g c =
           (goes_to (pc_at (page_of c.args.self.now) (c.jump.k + c.straight-done.result.0)) c.straight-done.result.1)
           c.straight-done.new.ram c.jump.invariant.goes refl more
           (omega (arith, c.straight-done.ensures.within, c.end_of-end.ensures.left)) c.straight-done.ensures.whole
-          c.in-Some.ensures.past c.in-Some.ensures.at.1
+          c.in-Some.ensures.on.past c.in-Some.ensures.on.at
           (λ mapping at. rw c.in-Some.ensures.done at (went g after mapping at));
-      below = c.in-Some.ensures.at.0;
+      below = c.in-Some.ensures.on.below;
       counted = omega (arith, c.jump.invariant.counted);
-      free = c.in-Some.ensures.free;
-      since = omega (arith, c.in-Some.ensures.inside.0);
-      before = c.in-Some.ensures.inside.1;
+      free = c.in-Some.ensures.on.free;
+      since = omega (arith, c.in-Some.ensures.on.since);
+      before = c.in-Some.ensures.on.before;
       checked = c.heed.ensures.checked _ c.straight-done.ensures.words c.reach-part.ensures.checked;
       live = c.heed.ensures.live;
       others = stayed g after c.heed.new.live.frames (c.heed.ensures.others _ c.straight-done.ensures.words);
