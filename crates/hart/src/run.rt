@@ -3,18 +3,13 @@
 //! The loop over the operations of a page has the registers, the memory, the translator and the decoded words in
 //! references of their own, and the index in the page as a local. A jump in the page leads to another index, and a
 //! hart's pc is written where the page is left.
-ghost use Rattle.std.specs.Prelude.{◌≡◌, ◌%◌, ◌/◌, ◌<◌, ◌≤◌, ◌+◌, ◌-◌, ◌*◌, ◌^◌, ◌⊎◌, ℕ, [], List, length};
-ghost use Rattle.std.specs.Prelude.{Err, IfNone, IfSome, None, Some, false, slice_index_or, vec_len};
+ghost use Rattle.std.specs.Prelude.{◌≡◌, ◌%◌, ◌/◌, ◌<◌, ◌≤◌, ◌+◌, ◌-◌, ◌*◌, ◌^◌, ◌⊎◌, ℕ, length};
+ghost use Rattle.std.specs.Prelude.{IfSome, None, Some, slice_index_or, vec_len};
 ghost use Rattle.unixmodel.specs.Translation.{HoldsInside};
-ghost use Rattle.unixmodel.specs.Words.{instruction_of};
-ghost use Rattle.sv39.specs.Mapping.{Mapped, frame_for};
-ghost use Rattle.hart.specs.Acts.{Acts, IsLive, KeepsLive, goes_to, trap_of};
-ghost use Rattle.hart.specs.Answered.{word_by};
-ghost use Rattle.hart.specs.Checked.{AreNow};
+ghost use Rattle.hart.specs.Acts.{Acts, KeepsLive, goes_to, trap_of};
 ghost use Rattle.hart.specs.Operations.{op_by};
-ghost use Rattle.hart.specs.Runs.{GoesOn, MovesOn, StaysWhole, point_at};
 ghost use Rattle.hart.specs.Stops.{AreFree, IsClear, IsLeast, IsOnward, pc_at};
-ghost use Rattle.hart.specs.Visits.{MayVisit, RunsOn, Visits};
+ghost use Rattle.hart.specs.Visits.{GoesAlong, MayGo, MayVisit, RunsOn, Visits};
 
 use crate::access::locate;
 use crate::act::{Aligned, Next};
@@ -184,22 +179,11 @@ impl Hart {
         ram: &mut Ram,
         trans: &mut T,
     ) -> (usize, Next)
-        requires inside { HoldsInside (T.held trans.old) ram.old }
-        requires places { (64 * part ≤ from) × (from < end) × (end ≤ 64 * part + 64) × (end ≤ 1024) }
+        requires can { MayGo (T.held trans.old) ram.old f.0 live.now.frames page.now part from end }
         requires least { (LEAST ≡ 1) ⊎ (end ≡ 64 * part + 64) }
         requires page { base % 4096 ≡ 0 }
-        requires live { IsLive live.now.frames f.0 }
-        requires now { AreNow page.now.words ram.old f.0 from end }
-        ensures goes { (mapping : List Mapped) (stops : List ℕ)
-            → frame_for mapping (base / 4096) Access.Fetch ≡ Some f.0 → IsClear stops base from (from + result.0) →
-            GoesOn (T.held trans.old) (T.held trans.new) self.old.root.0 mapping stops
-            (point_at self.old (pc_at base from) ram.old)
-            (point_at self.new (goes_to (pc_at base (from + result.0)) result.1) ram.new) result.0
-            (trap_of result.1) }
-        ensures words { KeepsLive result.1 live.now.frames ram.old ram.new }
-        ensures whole { StaysWhole (T.held trans.new) self.old self.new ram.old ram.new }
-        ensures within { from + result.0 ≤ end }
-        ensures moves { MovesOn (end - from) result.0 result.1 }
+        ensures { GoesAlong (T.held trans.old) (T.held trans.new) f.0 live.now.frames base from end self.old self.new
+            ram.old ram.new result.0 result.1 }
     {
         let ops = page.ops_of(part);
         let mut k = from;

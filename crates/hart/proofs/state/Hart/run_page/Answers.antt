@@ -61,10 +61,20 @@ jump-init g c = record {
   others = λ h fits other live. (live, λ k. refl);
 }
 
-pub straight-done-requires-clause-now : goal.straight-done-requires-clause-now
-straight-done-requires-clause-now g c = λ j since less.
-    c.reach-part.ensures.now j (omega (arith, since, c.reach-part.ensures.part))
-    (omega (arith, less, c.end_of-end.ensures.end.0))
+pub straight-done-requires-clause-can : goal.straight-done-requires-clause-can
+straight-done-requires-clause-can g c =
+    let part = c.reach-part.ensures.part in
+    record {
+      inside = c.jump.invariant.goes.whole.inside;
+      since = omega (arith, part);
+      some = c.end_of-end.ensures.after;
+      within = c.end_of-end.ensures.end.0;
+      below = c.end_of-end.ensures.end.1;
+      live = c.jump.invariant.live;
+      now = λ j since less.
+          c.reach-part.ensures.now j (omega (arith, since, part))
+          (omega (arith, less, c.end_of-end.ensures.end.0));
+    }
 
 pub onward-requires-clause-from : goal.onward-requires-clause-from
 onward-requires-clause-from g c = λ none.
