@@ -1,8 +1,8 @@
 //! Many instructions of the process of the active slot.
 ghost use Rattle.std.specs.Prelude.{◌≡◌, ◌<◌, ◌≤◌, Err, IfNone, IfSome, is_some, true};
 ghost use Rattle.std.specs.Bool.{OnFalse};
-ghost use Rattle.hart.specs.Stops.{EndsAt, IsBehind, is_stop};
-ghost use Rattle.spaces.specs.Instructions.{Advances};
+ghost use Rattle.hart.specs.Stops.{EndsAt, is_stop};
+ghost use Rattle.spaces.specs.Instructions.{Advances, RunsActive};
 ghost use Rattle.spaces.specs.Spaces.{Executes, Traps, view_at};
 ghost use Rattle.unixmodel.specs.declared.trap.Cause.TheVariants.{StorePageFault};
 ghost use Rattle.unixmodel.specs.Cycle.{cycle};
@@ -37,14 +37,7 @@ impl<T: Translate> Spaces<T> {
     #[inline(always)]
     fn run<S: Stops>(&mut self, count: u32, stops: &S) -> (u32, Option<Trap>)
         requires { is_some self.old.active ≡ true }
-        ensures done { IfSome self.old.active (λ at. Advances (S.addresses stops.now) result.0 self.old at self.new) }
-        ensures active { self.new.active ≡ self.old.active }
-        ensures within { result.0 ≤ count }
-        ensures ends { IfNone result.1 (EndsAt (S.addresses stops.now) count result.0 self.new.pc) }
-        ensures some { IfSome result.1 (λ t. result.0 < count) }
-        ensures behind { IfSome result.1 (λ t. IsBehind (S.addresses stops.now) result.0 self.old.pc self.new.pc) }
-        ensures trap { IfSome result.1 (λ t. (t.cause ≡ StorePageFault → ⊥) →
-            IfSome self.old.active (λ at. cycle self.new.registers self.new.pc (view_at self.new at).memory ≡ Err t)) }
+        ensures { RunsActive (S.addresses stops.now) self.old self.new count result.0 result.1 }
     {
         self.memory.ram.frames_are_whole();
         self.hart.run(

@@ -31,15 +31,13 @@ invariant_of-self g c =
       both = now.both;
     }
 
-pub returns-clause-done : goal.returns-clause-done
-returns-clause-done g c = rw (← c.self.view_is) ((ran g c).1)
-
-pub returns-clause-active : goal.returns-clause-active
-returns-clause-active g c = rw (← c.self.view_is) refl
-
-pub returns-clause-behind : goal.returns-clause-behind
-returns-clause-behind g c = rw (← c.self.view_is) c.run.ensures.behind
-
-pub returns-clause-trap : goal.returns-clause-trap
-returns-clause-trap g c =
-    rw (← c.self.view_is) (ran-trap c.run.result.1 c.self.inside.active c.self.invariant (went g c) refl)
+pub returns : goal.returns
+returns g c = rw (← c.self.view_is) (record {
+  done = (ran g c).1;
+  active = refl;
+  within = c.run.ensures.within;
+  ends = c.run.ensures.ends;
+  some = c.run.ensures.trap;
+  behind = c.run.ensures.behind;
+  trap = ran-trap c.run.result.1 c.self.inside.active c.self.invariant (went g c) refl;
+})
