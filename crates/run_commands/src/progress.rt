@@ -192,7 +192,6 @@ impl<S: Screen> Meter<S> {
     }
 
     // The console writes these bytes.
-    #[inline]
     fn writes(&self, bytes: &[u8]) {
         let Some(screen) = &self.screen else {
             return;
@@ -315,8 +314,6 @@ impl<'a, 'b, W: Write, S: Screen> Cleared<'a, 'b, W, S> {
 }
 
 impl<W: Write, S: Screen> Write for Cleared<'_, '_, W, S> {
-    // Each key that is echoed comes through here, with a result of 96 bytes that would be copied.
-    #[inline(always)]
     fn write(&mut self, buf: &[u8]) -> io::Result<usize> {
         self.meter.writes(buf);
         let count = self.out.write(buf)?;
