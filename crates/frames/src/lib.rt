@@ -8,9 +8,9 @@ ghost use Rattle.std.specs.Prelude.{◌≡◌, ℕ, ◌+◌, ◌<◌, ◌≤◌,
 ghost use Rattle.std.specs.Prelude.{IfNone, IfOk, ◌↔◌};
 ghost use Rattle.std.specs.Bool.{OnTrue, OnFalse};
 ghost use Rattle.std.specs.List.{range_with_len};
-ghost use Rattle.frames.specs.Free.{among, free_of, free_count, extra_of, further_at, Frees, FreesNone, IsDuplicate};
+ghost use Rattle.frames.specs.Free.{among, free_of, free_count, extra_of, further_at, IsDuplicate};
 ghost use Rattle.frames.specs.Free.{IsFreeList, SameBut};
-ghost use Rattle.frames.specs.Holders.{Gains, IsShared, Loses, Moves, holders_of};
+ghost use Rattle.frames.specs.Holders.{Gains, GivesBack, IsShared, Loses, Moves, holders_of};
 
 mod memory;
 
@@ -214,12 +214,7 @@ impl Frames {
         requires valid { IsFreeList ram.old self.old }
         requires inside { frame.0 < length ram.old }
         requires held { among frame.0 (free_of ram.old self.old) ≡ false }
-        ensures holders { Loses ram.old ram.new self.old self.new (frame.0 ∷ []) }
-        ensures more { free_count ram.new self.new ≡ free_count ram.old self.old + 1 }
-        ensures last { further_at self.old frame.0 ≡ 0 → Frees ram.old ram.new self.old self.new frame.0 }
-        ensures stays { 0 < further_at self.old frame.0 → FreesNone ram.old ram.new self.old self.new }
-        ensures valid { IsFreeList ram.new self.new }
-        ensures others { SameBut (frame.0 ∷ []) ram.old ram.new }
+        ensures { GivesBack ram.old ram.new self.old self.new frame.0 }
     {
         if self.holders[frame.0 as usize] > 1 {
             self.unshare(ram, frame);

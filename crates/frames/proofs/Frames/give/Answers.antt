@@ -1,4 +1,4 @@
-use Rattle.std.proofs.Common.{◌≡◌, ◌-◌, arith}
+use Rattle.std.proofs.Common.{◌≡◌, ◌-◌, arith, refl}
 use Rattle.frames.specs.Free.{further_at}
 use Rattle.frames.proofs.FreeLemmas.{count-read, further-is, free_count-list}
 use Rattle.frames.proofs.TradeLemmas.{holders-list}
@@ -20,14 +20,18 @@ pub push-requires-clause-last : goal.push-requires-clause-last
 push-requires-clause-last c =
     omega (arith, further (goal.at.push-requires-clause-last c).After-index, c.if-index-gt1.false)
 
-pub returns-then-index-gt1-clause-last : goal.returns-then-index-gt1-clause-last
-returns-then-index-gt1-clause-last c =
-    λ z. absurd (omega (
-      arith,
-      z,
-      further (goal.at.returns-then-index-gt1-clause-last c).After-index,
-      c.if-index-gt1.true,
-    ))
+pub returns-then-index-gt1 : goal.returns-then-index-gt1
+returns-then-index-gt1 c =
+    let done = c.unshare.ensures in
+    record {
+      holders = done.holders;
+      more = done.more;
+      last = λ z. absurd (omega
+          (arith, z, further (goal.at.returns-then-index-gt1 c).After-index, c.if-index-gt1.true));
+      stays = λ some. (done.list, refl);
+      valid = done.valid;
+      others = record { count = refl; others = λ g out. refl };
+    }
 
 pub returns-else-index-gt1 : goal.returns-else-index-gt1
 returns-else-index-gt1 c =
