@@ -1,5 +1,6 @@
 -- A pipe: where its bytes are in a memory, and which of its ends are open.
-use Rattle.std.specs.Prelude.{Bool, List, [], false, length, take, ℕ, ◌++◌, ◌-◌, ◌∷◌, ◌≡◌}
+use Rattle.std.specs.Prelude.{Bool, IfNone, IfSome, IsNone, List, Option, [], drop, false, length, min, slice_set, take}
+use Rattle.std.specs.Prelude.{true, ℕ, ◌++◌, ◌-◌, ◌∷◌, ◌≡◌, ◌↔◌}
 use Rattle.ram.specs.Memory.{frame_of}
 use Rattle.unixmodel.specs.OpenFiles.{pipe_room}
 use Rattle.files.specs.declared.file.End.{End}
@@ -46,3 +47,21 @@ pub record Stays (old new : Pipe) : Type 0 where
   pub frame : new.frame ≡ old.frame
   pub read_open : new.read_open ≡ old.read_open
   pub write_open : new.write_open ≡ old.write_open
+
+-- What fits of these bytes was put in, or nothing where no read end is open. No other frame of the memory was written.
+pub record PutsIn (m k : List (List ℕ)) (old new : Pipe) (given : List ℕ) (result : Option ℕ) : Type 0 where
+  pub refused : IsNone result ↔ old.read_open ≡ false
+  pub unchanged : IfNone result ((k ≡ m) × (new ≡ old))
+  pub bytes : IfSome result (λ n. bytes_of k new ≡ joined m old given)
+  pub count : IfSome result (λ n. n ≡ length (fitting m old given))
+  pub stays : Stays old new
+  pub memory : k ≡ slice_set m old.frame (frame_of k old.frame)
+
+-- As many bytes were taken into a buffer as there are and fit, or none where the reader has to wait.
+pub record TakesOut (m : List (List ℕ)) (old new : Pipe) (buffer filled : List ℕ) (result : Option ℕ) : Type 0 where
+  pub waits : IsNone result ↔ ((bytes_of m old ≡ []) × (old.write_open ≡ true))
+  pub unchanged : IfNone result ((filled ≡ buffer) × (new ≡ old))
+  pub taken : IfSome result (λ n. filled ≡ take (length buffer) (bytes_of m old) ++ drop n buffer)
+  pub count : IfSome result (λ n. n ≡ min (length buffer) (length (bytes_of m old)))
+  pub rest : bytes_of m new ≡ drop (length buffer) (bytes_of m old)
+  pub stays : Stays old new

@@ -1,8 +1,8 @@
 //! Pipes: at most 512 bytes in a ring that lies in a frame.
 #![tactic(auto)]
 
-ghost use Rattle.std.specs.Prelude.{◌≡◌, ◌+◌, ◌-◌, ◌<◌, ◌≤◌, ◌↔◌, ◌||◌, ◌++◌, ◌∷◌, List, [], ℕ, length, min, take};
-ghost use Rattle.std.specs.Prelude.{drop, nat_lt, not, slice_set, true, false, IfSome, IfNone, IsNone};
+ghost use Rattle.std.specs.Prelude.{◌≡◌, ◌+◌, ◌<◌, ◌≤◌, ◌||◌, ◌++◌, ◌∷◌, List, [], ℕ, length, nat_lt, not};
+ghost use Rattle.std.specs.Prelude.{slice_set, true};
 ghost use Rattle.ram.specs.Memory.{frame_of};
 ghost use Rattle.unixmodel.specs.OpenFiles.{pipe_room};
 ghost use Rattle.unixmodel.specs.Turn.{is_empty};
@@ -82,7 +82,7 @@ fn copy_out(places: &[u8; FRAME_SIZE], from: usize, buffer: &mut [u8])
 }
 
 impl Pipe {
-    ghost use Rattle.pipe.specs.Pipe.{bytes_of, closed, fitting, holds, is_open, joined, Stays};
+    ghost use Rattle.pipe.specs.Pipe.{PutsIn, TakesOut, bytes_of, closed, holds, is_open};
 
     /// An empty pipe in a frame, with both ends open.
     pub fn new(frame: FrameNo) -> Pipe
@@ -150,13 +150,7 @@ impl Pipe {
     /// Puts in what fits of these bytes, and returns how many. `None` where no read end is open.
     pub fn write_some(&mut self, ram: &mut Ram, bytes: &[u8]) -> Option<usize>
         requires { self.old.frame < length ram.old }
-        ensures refused { IsNone result ↔ self.old.read_open ≡ false }
-        ensures unchanged { IfNone result ((ram.new ≡ ram.old) × (self.new ≡ self.old)) }
-        ensures bytes { IfSome result (λ n. bytes_of ram.new self.new ≡ joined ram.old self.old bytes.now) }
-        ensures count { IfSome result (λ n. n ≡ length (fitting ram.old self.old bytes.now)) }
-        ensures stays { Stays self.old self.new }
-        // no other frame of the memory is written
-        ensures memory { ram.new ≡ slice_set ram.old self.old.frame (frame_of ram.new self.old.frame) }
+        ensures { PutsIn ram.old ram.new self.old self.new bytes.now result }
     {
         if !self.read_open {
             return None;
@@ -172,13 +166,7 @@ impl Pipe {
     /// `None` where the reader has to wait.
     pub fn read_some(&mut self, ram: &Ram, buffer: &mut [u8]) -> Option<usize>
         requires { self.old.frame < length ram.now }
-        ensures waits { IsNone result ↔ ((bytes_of ram.now self.old ≡ []) × (self.old.write_open ≡ true)) }
-        ensures unchanged { IfNone result ((buffer.new ≡ buffer.old) × (self.new ≡ self.old)) }
-        ensures taken { IfSome result
-            (λ n. buffer.new ≡ take (length buffer.old) (bytes_of ram.now self.old) ++ drop n buffer.old) }
-        ensures count { IfSome result (λ n. n ≡ min (length buffer.old) (length (bytes_of ram.now self.old))) }
-        ensures rest { bytes_of ram.now self.new ≡ drop (length buffer.old) (bytes_of ram.now self.old) }
-        ensures stays { Stays self.old self.new }
+        ensures { TakesOut ram.now self.old self.new buffer.old buffer.new result }
     {
         if self.held == 0 && self.write_open {
             return None;
