@@ -5,6 +5,7 @@ pub mod Checked
 pub mod Follows
 pub mod Known
 pub mod Operations
+pub mod Recalled
 pub mod Runs
 pub mod Sizes
 pub mod Stops

@@ -7,7 +7,7 @@ pub const SETS: usize = 32;
 /// How many pages a set has.
 pub const WAYS: usize = 4;
 
-/// Frames of which pages are known in a run: of each number modulo 32 at most one, that of the page used last.
+/// Frames of which pages are known: of each number modulo 32 at most one, that of the page used last.
 #[derive(Drop)]
 pub struct Live {
     frames: [u32; SETS],

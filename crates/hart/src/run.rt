@@ -7,7 +7,9 @@ ghost use Rattle.std.specs.Prelude.{◌≡◌, ◌%◌, ◌/◌, ◌<◌, ◌≤
 ghost use Rattle.std.specs.Prelude.{IfSome, None, Some, slice_index_or, vec_len};
 ghost use Rattle.unixmodel.specs.Translation.{HoldsInside};
 ghost use Rattle.hart.specs.Acts.{Acts, KeepsLive, goes_to, trap_of};
+ghost use Rattle.hart.specs.Known.{AreKnown};
 ghost use Rattle.hart.specs.Operations.{op_by};
+ghost use Rattle.hart.specs.Recalled.{Knows};
 ghost use Rattle.hart.specs.Stops.{AreFree, IsClear, IsLeast, IsOnward, pc_at};
 ghost use Rattle.hart.specs.Visits.{GoesAlong, MayGo, MayVisit, RunsOn, Visits};
 
@@ -293,30 +295,36 @@ impl Hart {
         count: u32,
         stops: &S,
     ) -> (u32, Option<Trap>)
-        requires { HoldsInside (T.held trans.old) ram.old }
-        ensures { RunsOn (T.held trans.old) (T.held trans.new) (S.addresses stops.now) self.old self.new ram.old ram.new
-            count result.0 result.1 }
+        requires inside { HoldsInside (T.held trans.old) ram.old }
+        requires known { Knows decoded.old ram.old }
+        ensures known { Knows decoded.new ram.new }
+        ensures runs { RunsOn (T.held trans.old) (T.held trans.new) (S.addresses stops.now) self.old self.new ram.old
+            ram.new count result.0 result.1 }
     {
-        self.run_pages(ram, trans, &mut decoded.pages, count, stops)
+        decoded.recall();
+        let Decoded { pages, live, .. } = decoded;
+        self.run_pages(ram, trans, pages, live, count, stops)
     }
 
-    // The same, on the pages.
+    // The same, on the pages, of which those of some frames are known.
     #[inline(always)]
     fn run_pages<T: Translate, S: Stops>(
         &mut self,
         ram: &mut Ram,
         trans: &mut T,
         pages: &mut Pages,
+        live: &mut Live,
         count: u32,
         stops: &S,
     ) -> (u32, Option<Trap>)
         requires inside { HoldsInside (T.held trans.old) ram.old }
         requires many { vec_len pages.old.all ≡ 128 }
+        requires known { AreKnown live.old.frames pages.old.sets pages.old.all.items ram.old }
         ensures many { vec_len pages.new.all ≡ 128 }
+        ensures known { AreKnown live.new.frames pages.new.sets pages.new.all.items ram.new }
         ensures runs { RunsOn (T.held trans.old) (T.held trans.new) (S.addresses stops.now) self.old self.new ram.old
             ram.new count result.0 result.1 }
     {
-        let mut live = Live::new();
         let mut left = count;
         while left > 0 {
             let Some(f) = locate(trans, ram, self.root, self.pc, Access::Fetch) else {
@@ -327,9 +335,9 @@ impl Hart {
                 return (count - left, Some(trap));
             };
             ram.frames_are_whole();
-            let at = pages.place(f.0, &mut live);
+            let at = pages.place(f.0, live);
             let page = &mut pages.all[at];
-            let (rest, stopped) = self.visit(page, f, &mut live, ram, trans, left, stops);
+            let (rest, stopped) = self.visit(page, f, live, ram, trans, left, stops);
             left = rest;
             if let Some(trap) = stopped {
                 return (count - left, Some(trap));

@@ -6,6 +6,7 @@ use Rattle.spaces.proofs.Common.{SpaceView, taken_frames, with_place, IsLoaded, 
 use Rattle.spaces.proofs.Common.{spaces_of, view_with, Inside}
 use Rattle.frames.specs.declared.memory.Memory.{Memory as FrameMemory}
 use Rattle.spaces.proofs.SpacesLemmas.{Places, map-placed}
+use Rattle.hart.specs.declared.decoded.Decoded.{Decoded}
 
 -- a memory of these bytes, and who holds its frames
 abbrev pub with_holders : Ram → Frames → FrameMemory
@@ -96,3 +97,16 @@ set_in i k t xs at y =
       translator = t;
       places = record { items = refill (length i.places.items) i.places.items (slice_set xs at y) };
     }
+
+-- what decoded words are is no part of it
+pub anew : {T : Type 0} {held : T → Held} {i : Inside T} (d : Decoded) → IsSpaces held i
+    → IsSpaces held (record i { decoded = d })
+anew d is = record {
+  machine = is.machine;
+  all = is.all;
+  loaded = is.loaded;
+  active = is.active;
+  inside = is.inside;
+  pipes = is.pipes;
+  both = is.both;
+}

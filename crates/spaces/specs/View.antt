@@ -1,6 +1,7 @@
 -- What the fields represent.
 use Rattle.std.specs.Prelude.{List, None, Option, Some, [], length, map, option_and_then, ℕ, ◌/◌, ◌<◌, ◌^◌, ◌∷◌, ◌≡◌}
 use Rattle.std.specs.List.{flat_map}
+use Rattle.hart.specs.Recalled.{Knows}
 use Rattle.pipe.specs.Pipe.{Pipe, bytes_of}
 use Rattle.spaces.specs.declared.Spaces.TheInside.{Inside}
 use Rattle.spaces.specs.Ends.{IsOpen}
@@ -75,6 +76,11 @@ pub record IsSpaces {T : Type 0} (held : T → translation.Held) (k : Inside T) 
   pub inside : HoldsInside (held k.translator) k.memory.ram
   pub pipes : length k.pipes.items ≡ 100
   pub both : (q : ℕ) (p : Pipe) → slot k.pipes.items q ≡ Some p → IsOpen p
+
+-- and what is known of decoded words holds of the memory
+pub record IsWhole {T : Type 0} (held : T → translation.Held) (k : Inside T) : Type 0 where
+  pub spaces : IsSpaces held k
+  pub known : Knows k.decoded k.memory.ram
 
 -- walks from this root reach the bytes that the tables of a space show
 abbrev pub WalksReach : List (List ℕ) → ℕ → Space → Type 0

@@ -14,6 +14,8 @@
 //! another slot is loaded, and where the loaded one shrinks, is copied, so that its pages are closed, or is written
 //! where a page may get another frame. A space that grows keeps the frames that it had, one that is written at an open
 //! page does, and what is held for spaces that aren't loaded doesn't count.
+//!
+//! What is known of decoded words holds from run to run: who else writes the memory has it forgotten.
 #![tactic(auto)]
 
 ghost use Rattle.std.specs.Prelude.{◌≡◌, ◌≢◌, List, ◌+◌, ◌-◌, ◌++◌, ◌<◌, ◌≤◌, ◌/◌, ◌%◌, ℕ, [], All, Some, None, true};
@@ -40,6 +42,7 @@ ghost use Rattle.unixmodel.specs.Shown.{ShowsMemory, told_page};
 ghost use Rattle.unixmodel.specs.Turn.{is_empty};
 ghost use Rattle.unixmodel.specs.Translation.{HoldsInside, HoldsNothing, IsKept, Translation};
 ghost use Rattle.hart.specs.Follows.{Follows};
+ghost use Rattle.hart.specs.Recalled.{Knows};
 ghost use Rattle.sv39.specs.Mapping.{Mapped, Shows, memory_of};
 ghost use Rattle.vm.specs.Leaf.{kept_from, marks_from, page_from};
 ghost use Rattle.vm.specs.Reach.{IsSized, piece_at, short_string, string_in};
@@ -85,11 +88,11 @@ impl<T: Translate> Model for Spaces<T> {
 
     ghost Value = { Spaces };
 
-    ghost use Rattle.spaces.specs.View.{IsSpaces, spaces_of};
+    ghost use Rattle.spaces.specs.View.{IsWhole, spaces_of};
 
     ghost view = { spaces_of };
 
-    ghost invariant = { IsSpaces T.held };
+    ghost invariant = { IsWhole T.held };
 }
 
 // Fences a translator where this slot is loaded.
@@ -255,7 +258,9 @@ fn duplicate_pipes(pipes: &ArrayVec<Option<Pipe>, 100>) -> ArrayVec<Option<Pipe>
 }
 
 // No decoded words, with room for them.
-fn nothing_decoded(alloc: Global) -> Result<Decoded, NoMemory> {
+fn nothing_decoded(alloc: Global) -> Result<Decoded, NoMemory>
+    ensures { IfOk result (λ decoded. (ram : List (List ℕ)) → Knows decoded ram) }
+{
     match Decoded::new(alloc) {
         Ok(decoded) => Ok(decoded),
         Err(_) => Err(NoMemory),
@@ -318,11 +323,12 @@ impl<T: Translate> Spaces<T> {
     }
 
     /// Becomes the same spaces, pipes and registers over a copy of a memory of as many frames, in the memory of the
-    /// host that it has. Its own translator is fenced; decoded words stay, of which none says anything of a memory.
+    /// host that it has. Its own translator is fenced, and what is known of decoded words is forgotten.
     pub fn copy_from<U: Translate>(&mut self, source: &Spaces<U>)
         requires { self.old.frames ≡ source.now.frames }
         ensures { self.new ≡ source.now }
     {
+        self.decoded.forget();
         self.memory.copy_from(&source.memory);
         let translator = &mut self.translator;
         translator.fence();
@@ -469,6 +475,7 @@ impl<T: Translate> Spaces<T> {
         ensures done { OnTrue result (Fits self.old self.new (with_view self.old at no_pages)) }
         ensures refused { OnFalse result (Lacks self.old self.new (with_view self.old at no_pages)) }
     {
+        self.decoded.forget();
         match Space::new(&mut self.memory) {
             Ok(space) => {
                 self.places[at] = Some(space);
@@ -490,6 +497,7 @@ impl<T: Translate> Spaces<T> {
         ensures done { OnTrue result (Fits self.old self.new (copied self.old from to)) }
         ensures refused { OnFalse result (Lacks self.old self.new (copied self.old from to)) }
     {
+        self.decoded.forget();
         let space = space_at(&self.places, from);
         match space.copy(&mut self.memory) {
             Ok(space) => {
@@ -507,6 +515,7 @@ impl<T: Translate> Spaces<T> {
         requires idle { self.old.active ≢ Some at }
         ensures { self.new ≡ with_place self.old at None }
     {
+        self.decoded.forget();
         self.loaded = still_loaded(self.loaded, at);
         let space = self.places[at].take().unwrap();
         space.destroy(&mut self.memory);
@@ -522,6 +531,7 @@ impl<T: Translate> Spaces<T> {
         ensures done { OnTrue result (Fits self.old self.new (grown_at self.old at bytes (marks_from perm))) }
         ensures refused { OnFalse result (Lacks self.old self.new (grown_at self.old at bytes (marks_from perm))) }
     {
+        self.decoded.forget();
         self.memory.ram.frames_are_whole();
         let space = self.places[at].as_mut().unwrap();
         space.grow(&mut self.memory, bytes, perm).is_ok()
@@ -533,6 +543,7 @@ impl<T: Translate> Spaces<T> {
         requires less { bytes ≤ (view_at self.old at).size }
         ensures { self.new ≡ with_view self.old at (shrunk (view_at self.old at) bytes) }
     {
+        self.decoded.forget();
         let space = self.places[at].as_mut().unwrap();
         space.shrink(&mut self.memory, bytes);
         fence_loaded(&mut self.translator, self.loaded, at);
@@ -559,6 +570,7 @@ impl<T: Translate> Spaces<T> {
             (self.new ≡ with_view self.old at (written (view_at self.old at) address bytes.now)) }
         ensures refused { OnFalse result (self.new ≡ self.old) }
     {
+        self.decoded.forget();
         let space = space_at(&self.places, at);
         space.store(&mut self.memory.ram, address, bytes)
     }
@@ -570,6 +582,7 @@ impl<T: Translate> Spaces<T> {
         requires inside { (i : ℕ) → i < length bytes.now → (address + i) / 4096 < length (view_at self.old at).memory }
         ensures { self.new ≡ with_view self.old at (written (view_at self.old at) address bytes.now) }
     {
+        self.decoded.forget();
         let space = space_at(&self.places, at);
         space.fill(&mut self.memory, address, bytes);
         fence_loaded(&mut self.translator, self.loaded, at);
@@ -700,6 +713,7 @@ impl<T: Translate> Spaces<T> {
         ensures done { IfNone result (IfSome self.old.active (Executes self.old self.new)) }
         ensures trap { IfSome result (λ t. IfSome self.old.active (λ at. Traps self.old self.new at t)) }
     {
+        self.decoded.forget();
         self.memory.ram.frames_are_whole();
         let Some(at) = self.active else {
             unreachable!()
@@ -748,6 +762,7 @@ impl<T: Translate> Spaces<T> {
         requires { has_pipe self.old q ≡ true }
         ensures { self.new ≡ with_pipe self.old q None }
     {
+        self.decoded.forget();
         let pipe = self.pipes[q].take().unwrap();
         self.memory.frames.give(&mut self.memory.ram, pipe.frame());
     }
@@ -788,6 +803,7 @@ impl<T: Translate> Spaces<T> {
         ensures bytes { self.new ≡ put_behind self.old q bytes.now }
         ensures count { result ≡ length (fitting (bytes_in self.old q) bytes.now) }
     {
+        self.decoded.forget();
         let pipe = self.pipes[q].as_mut().unwrap();
         put_in(pipe, &mut self.memory.ram, bytes)
     }

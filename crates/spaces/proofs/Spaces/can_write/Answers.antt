@@ -6,4 +6,4 @@ space_at-space-requires g c = stands-there c.self.inside c.args.at (rw (← c.se
 
 pub can_write-requires : goal.can_write-requires
 can_write-requires g c =
-    (c.self.invariant.machine.each c.args.at c.space_at-space.result.now c.space_at-space.ensures).dense
+    (c.self.invariant.spaces.machine.each c.args.at c.space_at-space.result.now c.space_at-space.ensures).dense

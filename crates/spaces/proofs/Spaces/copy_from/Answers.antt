@@ -7,16 +7,19 @@ copy_from-requires g c =
     let count = rw (← c.self.view_is, ← c.source.view_is) at c.requires in
     record {
       ram = count;
-      counts = c.self.invariant.machine.free.size ∙ count ∙ sym c.source.invariant.machine.free.size;
+      counts = c.self.invariant.spaces.machine.free.size ∙ count ∙ sym c.source.invariant.spaces.machine.free.size;
     }
 
 pub invariant_of-self : goal.invariant_of-self
-invariant_of-self g c = parts-sound g.U.Translate.held g.T.Translate.held c.source.inside _ record {
-  memory = c.copy_from.ensures;
-  places = c.duplicate_places-self-inside.ensures;
-  hart = c.duplicate-self-inside.ensures;
-  active = refl;
-  loaded = refl;
-  pipes = c.duplicate_pipes-self-inside.ensures;
-  fenced = c.fence.ensures;
-} c.source.invariant
+invariant_of-self g c = record {
+  spaces = parts-sound g.U.Translate.held g.T.Translate.held c.source.inside _ record {
+    memory = c.copy_from.ensures;
+    places = c.duplicate_places-self-inside.ensures;
+    hart = c.duplicate-self-inside.ensures;
+    active = refl;
+    loaded = refl;
+    pipes = c.duplicate_pipes-self-inside.ensures;
+    fenced = c.fence.ensures;
+  } c.source.invariant.spaces;
+  known = c.forget.ensures _;
+}

@@ -7,7 +7,7 @@ space_at-space-requires g c = stands-there c.self.inside c.args.at (rw (← c.se
 
 pub copy_string-requires : goal.copy_string-requires
 copy_string-requires g c =
-    (c.self.invariant.machine.each c.args.at c.space_at-space.result.now c.space_at-space.ensures).dense
+    (c.self.invariant.spaces.machine.each c.args.at c.space_at-space.result.now c.space_at-space.ensures).dense
 
 pub returns-clause-string : goal.returns-clause-string
 returns-clause-string g c =

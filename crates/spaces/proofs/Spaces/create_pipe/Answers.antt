@@ -12,14 +12,14 @@ made : (g : given.Over) (c : After-deref_mut g)
     c.args.q (Some [])
 made g c =
     let made = c.new.ensures in
-    piped-as _ (piped-there c.self.invariant c.args.q c.new.result c.requires.inside
+    piped-as _ (piped-there c.self.invariant.spaces c.args.q c.new.result c.requires.inside
     (rw (← c.self.view_is) at c.requires.free) c.deref_mut.ensures.value c.in-Some.ensures.valid
     (rw made.frame c.in-Some.ensures.some) c.in-Some.ensures.extra
     (record { read = made.read; write = made.write }))
     (ap Some (made.empty c.self.inside.memory.ram))
 
 pub invariant_of-self : goal.invariant_of-self
-invariant_of-self g c = (made g (goal.at.invariant_of-self g c).After-deref_mut).sound
+invariant_of-self g c = record { spaces = (made g (goal.at.invariant_of-self g c).After-deref_mut).sound; known = c.self.invariant.known }
 
 pub returns-in-Some-clause-done : goal.returns-in-Some-clause-done
 returns-in-Some-clause-done g c =
@@ -30,7 +30,7 @@ pub returns-in-None-clause-refused : goal.returns-in-None-clause-refused
 returns-in-None-clause-refused g c =
     let full = c.in-None.ensures in
     rw (← c.self.view_is) (
-      over-free c.self.invariant c.args.q c.requires.inside
+      over-free c.self.invariant.spaces c.args.q c.requires.inside
           (rw (← c.self.view_is) at c.requires.free) (full.none.0 refl),
       ap (λ n. spaces_of (record c.self.inside { memory = with_holders c.self.inside.memory.ram n })) full.unchanged,
     )

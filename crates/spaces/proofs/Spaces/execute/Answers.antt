@@ -4,6 +4,7 @@ use Rattle.spaces.proofs.Spaces.execute.Goals.{After-fence, After-space_at-space
 use Rattle.spaces.proofs.Stepped.{IsRun, Reopened, Steps, reopened, run-at, run-of, second, sound-stepped, step-done}
 use Rattle.spaces.proofs.Stepped.{step-trap, trap-space}
 use Rattle.spaces.proofs.Common.{ap, sym, ◌∙◌, marks_at, right_marks}
+use Rattle.spaces.proofs.Shown.{anew}
 
 steps : (g : given.Over) (c : After-step g)
     → Steps g.T.Translate.held c.self.inside c.step.new.trans c.step.new.self c.step.new.ram c.step.result
@@ -13,7 +14,7 @@ steps g c = let e = c.step.ensures in let whole =
 
 run : (g : given.Over) (c : After-space_at-space g)
     → IsRun g.T.Translate.held c.self.inside c.in-Some.at c.space_at-space.result.now
-run g c = run-at c.space_at-space.result.now c.self.invariant c.in-Some.is c.space_at-space.ensures
+run g c = run-at c.space_at-space.result.now c.self.invariant.spaces c.in-Some.is c.space_at-space.ensures
 
 -- the fields after the fence
 reopen : (g : given.Over) (c : After-fence g)
@@ -29,12 +30,15 @@ reopen g c =
     c.in-Some-step.is c.open_page.ensures.opens.same c.fence.ensures
 
 pub invariant_of-self : goal.invariant_of-self
-invariant_of-self g c = sound-stepped (run-of c.self.invariant c.in-Some.is).1
-    (steps g (goal.at.invariant_of-self g c).After-step)
+invariant_of-self g c = record {
+  spaces = anew _ (sound-stepped (run-of c.self.invariant.spaces c.in-Some.is).1
+      (steps g (goal.at.invariant_of-self g c).After-step));
+  known = c.forget.ensures _;
+}
 
 pub returns-in_default-step-clause-done : goal.returns-in_default-step-clause-done
 returns-in_default-step-clause-done g c =
-    rw (← c.self.view_is) (step-done (run-of c.self.invariant c.in-Some.is).1
+    rw (← c.self.view_is) (step-done (run-of c.self.invariant.spaces c.in-Some.is).1
     (steps g (goal.at.returns-in_default-step-clause-done g c).After-step) c.in_default-step.is)
 
 pub closed_page-requires : goal.closed_page-requires
@@ -44,8 +48,9 @@ closed_page-requires g c =
 
 pub invariant_of-self-in_default-closed_page : goal.invariant_of-self-in_default-closed_page
 invariant_of-self-in_default-closed_page g c =
-    sound-stepped (run-of c.self.invariant c.in-Some.is).1
-    (steps g (goal.at.invariant_of-self-in_default-closed_page g c).After-step)
+    let stepped = sound-stepped (run-of c.self.invariant.spaces c.in-Some.is).1
+    (steps g (goal.at.invariant_of-self-in_default-closed_page g c).After-step) in
+    record { spaces = anew _ stepped; known = c.forget.ensures _ }
 
 pub returns-in_default-closed_page-clause-trap : goal.returns-in_default-closed_page-clause-trap
 returns-in_default-closed_page-clause-trap g c =
@@ -62,8 +67,9 @@ pub invariant_of-self-2 : goal.invariant_of-self-2
 invariant_of-self-2 g c =
     let e = c.step_again.ensures in
     let whole = c.frames_are_whole-2.ensures in
-    sound-stepped (reopen g (goal.at.invariant_of-self-2 g c).After-fence).run
-    (record { memory = whole.memory; small = whole.small; step = e.step; kept = e.kept; count = e.count })
+    let stepped = sound-stepped (reopen g (goal.at.invariant_of-self-2 g c).After-fence).run
+    (record { memory = whole.memory; small = whole.small; step = e.step; kept = e.kept; count = e.count }) in
+    record { spaces = anew _ stepped; known = c.forget.ensures _ }
 
 pub returns : goal.returns
 returns g c =

@@ -12,4 +12,4 @@ returns g c =
     rw (← c.self.view_is, pipe-is c.self.inside _ c.pipe_at-pipe.ensures)
     (c.can_read.ensures c.self.inside.memory.ram
     ∙ or-open (not (is_empty (bytes_of c.self.inside.memory.ram p))) p.write_open
-    (c.self.invariant.both c.args.q p c.pipe_at-pipe.ensures).write)
+    (c.self.invariant.spaces.both c.args.q p c.pipe_at-pipe.ensures).write)

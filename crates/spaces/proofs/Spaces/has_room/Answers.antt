@@ -11,7 +11,7 @@ returns-clause-room g c =
     rw (← c.self.view_is, pipe-is c.self.inside _ c.pipe_at-pipe.ensures)
     (c.can_write.ensures.can c.self.inside.memory.ram
     ∙ or-open (nat_lt (length (bytes_of c.self.inside.memory.ram p)) 512) p.read_open
-    (c.self.invariant.both c.args.q p c.pipe_at-pipe.ensures).read)
+    (c.self.invariant.spaces.both c.args.q p c.pipe_at-pipe.ensures).read)
 
 pub returns-clause-few : goal.returns-clause-few
 returns-clause-few g c =

@@ -7,7 +7,7 @@ space_at-space-requires g c = stands-there c.self.inside c.args.at (rw (← c.se
 
 pub find_page-requires : goal.find_page-requires
 find_page-requires g c =
-    (c.self.invariant.machine.each c.args.at c.space_at-space.result.now c.space_at-space.ensures).dense
+    (c.self.invariant.spaces.machine.each c.args.at c.space_at-space.result.now c.space_at-space.ensures).dense
 
 pub returns-in_err-frame : goal.returns-in_err-frame
 returns-in_err-frame g c =

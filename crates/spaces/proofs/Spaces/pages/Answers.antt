@@ -7,7 +7,7 @@ space_at-space-requires g c = stands-there c.self.inside c.args.at (rw (← c.se
 
 pub pages_in-requires : goal.pages_in-requires
 pages_in-requires g c =
-    let space = c.self.invariant.machine.each c.args.at c.space_at-space.result.now c.space_at-space.ensures in
+    let space = c.self.invariant.spaces.machine.each c.args.at c.space_at-space.result.now c.space_at-space.ensures in
     rw c.size.ensures (omega (arith, space.dense.small))
 
 pub returns-clause-count : goal.returns-clause-count
@@ -23,4 +23,4 @@ returns-clause-few g c =
       held-is c.self.inside _ c.space_at-space.ensures,
       length-pages_of c.self.inside.memory.ram c.space_at-space.result.now,
     )
-    ((c.self.invariant.machine.each c.args.at c.space_at-space.result.now c.space_at-space.ensures).dense.small)
+    ((c.self.invariant.spaces.machine.each c.args.at c.space_at-space.result.now c.space_at-space.ensures).dense.small)

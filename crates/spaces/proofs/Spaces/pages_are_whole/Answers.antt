@@ -4,7 +4,7 @@ use Rattle.std.proofs.Common.{refl}
 
 pub returns : goal.returns
 returns g c =
-    let w = are-whole g.T.Translate.held c.self.inside c.self.invariant c.args.at _ refl
+    let w = are-whole g.T.Translate.held c.self.inside c.self.invariant.spaces c.args.at _ refl
     (stands-there c.self.inside c.args.at (rw (← c.self.view_is) at c.requires))
     c.frames_are_whole.ensures.memory in
     record {

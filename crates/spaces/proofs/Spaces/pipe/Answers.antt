@@ -4,7 +4,7 @@ use Rattle.spaces.proofs.Places.{pipe-slot}
 use Rattle.spaces.proofs.Spaces.pipe.Goals as goal
 
 pub bytes-requires : goal.bytes-requires
-bytes-requires g c = (pipe-frame c.self.invariant c.args.q c.in-Some.pipe.now (sym c.in-Some.ensures)).0
+bytes-requires g c = (pipe-frame c.self.invariant.spaces c.args.q c.in-Some.pipe.now (sym c.in-Some.ensures)).0
 
 pub returns-in-Some : goal.returns-in-Some
 returns-in-Some g c =

@@ -3,14 +3,15 @@ use Rattle.spaces.proofs.Spaces.put_bytes.Goals as goal
 use Rattle.spaces.proofs.Spaces.put_bytes.Goals.{After-put_in}
 use Rattle.spaces.proofs.Common.{bytes_of, Some, ap, sym}
 use Rattle.spaces.proofs.Piped.{Piped, pipe-found, pipe-frame, pipe-is, piped-as, piped-written, set_pipe}
+use Rattle.spaces.proofs.Shown.{anew}
 
 pub put_in-requires : goal.put_in-requires
 put_in-requires g c =
     let e = pipe-found c.self.inside c.args.q _ (rw (← c.self.view_is) at c.requires) c.deref_mut.ensures.value
     (sym (rw c.unwrap-pipe.ensures at c.as_mut.ensures.value)) in
     record {
-      frame = (pipe-frame c.self.invariant c.args.q c.unwrap-pipe.result.now e).0;
-      «open» = c.self.invariant.both c.args.q c.unwrap-pipe.result.now e;
+      frame = (pipe-frame c.self.invariant.spaces c.args.q c.unwrap-pipe.result.now e).0;
+      «open» = c.self.invariant.spaces.both c.args.q c.unwrap-pipe.result.now e;
     }
 
 wrote : (g : given.Over) (c : After-put_in g)
@@ -20,11 +21,11 @@ wrote : (g : given.Over) (c : After-put_in g)
 wrote g c =
     let e = pipe-found c.self.inside c.args.q _ (rw (← c.self.view_is) at c.requires) c.deref_mut.ensures.value
     (sym (rw c.unwrap-pipe.ensures at c.as_mut.ensures.value)) in
-    piped-written c.self.invariant c.args.q c.unwrap-pipe.result.now c.put_in.new.pipe _ e c.deref_mut.ensures.value
+    piped-written c.self.invariant.spaces c.args.q c.unwrap-pipe.result.now c.put_in.new.pipe _ e c.deref_mut.ensures.value
     c.put_in.ensures.stays c.put_in.ensures.memory
 
 pub invariant_of-self : goal.invariant_of-self
-invariant_of-self g c = (wrote g (goal.at.invariant_of-self g c).After-put_in).sound
+invariant_of-self g c = record { spaces = anew _ ((wrote g (goal.at.invariant_of-self g c).After-put_in).sound); known = c.forget.ensures _ }
 
 pub returns : goal.returns
 returns g c =

@@ -6,7 +6,7 @@ pub space_at-space-requires : goal.space_at-space-requires
 space_at-space-requires g c = stands-there c.self.inside c.args.at (rw (← c.self.view_is) at c.requires)
 
 pub copy_in-requires : goal.copy_in-requires
-copy_in-requires g c = (c.self.invariant.machine.each c.args.at c.space_at-space.result.now
+copy_in-requires g c = (c.self.invariant.spaces.machine.each c.args.at c.space_at-space.result.now
     c.space_at-space.ensures).dense
 
 pub returns-clause-can : goal.returns-clause-can

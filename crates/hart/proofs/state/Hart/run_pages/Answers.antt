@@ -1,9 +1,11 @@
-use Rattle.hart.proofs.Common.{arith, GoesOn, inl, inr, List, Mapped, None, Option, point_of, refl, rules, Some, subst}
+use Rattle.hart.proofs.Common.{arith, GoesOn, inl, inr, List, Mapped, None, Option, point_of, refl, rules, slice_set}
+use Rattle.hart.proofs.Common.{Some, subst}
 use Rattle.hart.proofs.Common.{sym, Trap, ◌+◌, ◌-◌, ◌≡◌}
-use Rattle.hart.proofs.Pages.{no_pages, none-known, still-known}
+use Rattle.hart.proofs.Pages.{no_pages, still-known}
 use Rattle.hart.proofs.Steps.{inside-kept}
 use Rattle.hart.proofs.Stopping.{behind-then}
 use Rattle.hart.proofs.Running.{goes-none, run-faults, run-then, whole-then}
+use Rattle.hart.specs.Known.{AreKnown}
 use Rattle.hart.proofs.state.Hart.run_pages.Given as given
 use Rattle.hart.proofs.state.Hart.run_pages.Goals as goal
 use Rattle.hart.proofs.state.Hart.run_pages.Goals.{After-visit-rest}
@@ -23,6 +25,16 @@ ran g c stopped is mapping =
     c.in-Some.f.0 stopped before.behind refl before.bounded c.visit-rest.ensures.within refl
     (λ others at. rw is at (c.visit-rest.ensures.goes others at))
 
+-- what is known after them
+knows : (g : given.Over) (c : After-visit-rest g)
+    → AreKnown c.visit-rest.new.live.frames c.place-at.new.self.sets
+    (slice_set c.place-at.new.self.all.items c.place-at.result c.visit-rest.new.page) c.visit-rest.new.ram
+knows g c = still-known c.place-at.new.live.frames c.visit-rest.new.live.frames c.place-at.new.self.sets no_pages
+    c.place-at.new.self.all.items c.loop-left.ram c.visit-rest.new.ram c.in-Some.f.0 c.place-at.result
+    c.visit-rest.new.page (search rules) c.place-at.ensures.page c.place-at.ensures.live
+    c.visit-rest.ensures.others c.visit-rest.ensures.checked
+    (c.place-at.ensures.known c.loop-left.ram c.loop-left.invariant.known)
+
 pub visit-rest-requires-clause-can : goal.visit-rest-requires-clause-can
 visit-rest-requires-clause-can g c = record {
   inside = inside-kept _ c.loop-left.invariant.whole.inside c.locate.ensures.kept;
@@ -38,7 +50,7 @@ pub loop-left-init : goal.loop-left-init
 loop-left-init g c = record {
   bounded = omega arith;
   many = c.requires.many;
-  known = rw c.new-live.ensures (none-known _ _ _);
+  known = c.requires.known;
   whole = record { inside = c.requires.inside; count = refl; root = refl };
   behind = inr (omega arith, refl);
   goes = λ mapping. goes-none (omega arith);
@@ -51,11 +63,7 @@ loop-left-preserved g c =
     record {
       bounded = omega (arith, c.visit-rest.ensures.within, before.bounded);
       many = c.place-at.ensures.many;
-      known = still-known c.place-at.new.live.frames c.visit-rest.new.live.frames c.place-at.new.self.sets no_pages
-          c.place-at.new.self.all.items c.loop-left.ram c.visit-rest.new.ram c.in-Some.f.0 c.place-at.result
-          c.visit-rest.new.page (search rules) c.place-at.ensures.page c.place-at.ensures.live
-          c.visit-rest.ensures.others c.visit-rest.ensures.checked
-          (c.place-at.ensures.known c.loop-left.ram before.known);
+      known = knows g (goal.at.loop-left-preserved g c).After-visit-rest;
       whole = whole-then before.whole c.visit-rest.ensures.whole;
       behind = inl (omega (arith, before.bounded, fewer), sym c.if-has.ensures);
       goes = ran g (goal.at.loop-left-preserved g c).After-visit-rest None c.in_default-stopped.is;
@@ -127,3 +135,9 @@ returns-clause-runs g c =
       trap = tt;
       behind = tt;
     }
+
+pub returns-in-Some-stopped-clause-known : goal.returns-in-Some-stopped-clause-known
+returns-in-Some-stopped-clause-known g c = knows g (goal.at.returns-in-Some-stopped-clause-known g c).After-visit-rest
+
+pub returns-then-has-clause-known : goal.returns-then-has-clause-known
+returns-then-has-clause-known g c = knows g (goal.at.returns-then-has-clause-known g c).After-visit-rest
