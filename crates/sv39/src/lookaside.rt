@@ -1,11 +1,9 @@
 //! A translator that remembers what it found, so that most accesses need no walk.
-ghost use Rattle.std.specs.Prelude.{◌≡◌, ◌+◌, ◌-◌, ◌*◌, ◌/◌, ◌%◌, ◌^◌, ◌<◌, ◌⊎◌, List, length, Some, IfSome, IfNone};
-ghost use Rattle.std.specs.Prelude.{IfOk};
-ghost use Rattle.std.specs.Result.{result_ok};
-ghost use Rattle.unixmodel.specs.Translation.{walk_page, walk, walk_count, place_in, Translation, IsAnswer, IsKept};
-ghost use Rattle.unixmodel.specs.Translation.{HoldsNothing, HoldsInside};
-ghost use Rattle.sv39.specs.Lookaside.{Keeps, KeepsOthers, Hits, Misses, Reaches, IsFound, Cache, asked, of_page};
-ghost use Rattle.sv39.specs.Walk.{LiesInside, numbered};
+ghost use Rattle.std.specs.Prelude.{◌≡◌, ◌+◌, ◌-◌, ◌*◌, ◌/◌, ◌%◌, ◌^◌, ◌<◌, ◌⊎◌};
+ghost use Rattle.unixmodel.specs.Translation.{Translation, HoldsNothing};
+ghost use Rattle.sv39.specs.Lookaside.{Keeps};
+ghost use Rattle.sv39.specs.Translating.{RecallsOrWalks, Walks, placed};
+ghost use Rattle.sv39.specs.Walk.{numbered};
 
 use crate::places::Places;
 use crate::{Access, Fault, Pa, Translate, address, walked};
@@ -52,12 +50,7 @@ impl<const N: usize> Tlb<N> {
     #[inline(never)]
     fn look_up(&mut self, ram: &Ram, root: FrameNo, page: u64, access: Access) -> Option<FrameNo>
         requires { page < 2 ^ 52 }
-        ensures is { numbered result ≡ (walk_page ram.now root.0 page access).frame }
-        ensures inside { IfSome result (λ f. f.0 < length ram.now) }
-        ensures reads { self.new.reads ≡ (self.old.reads + (walk_page ram.now root.0 page access).count) % 2 ^ 64 }
-        ensures joins { IfSome result (λ f. Keeps N self.new.kept (of_page root.0 page access f.0)) }
-        ensures stays { KeepsOthers N page (Keeps N self.old.kept) (Keeps N self.new.kept) }
-        ensures kept { IsKept (Keeps N self.old.kept) (Keeps N self.new.kept) ram.now root.0 }
+        ensures { Walks N self.old self.new ram.now root.0 page access (numbered result) }
     {
         let walked = walked(ram, root, page, access);
         self.reads = self.reads.wrapping_add(u64::from(walked.count));
@@ -71,16 +64,7 @@ impl<const N: usize> Tlb<N> {
     // hart's path from the physical address back to it is left out.
     #[inline(always)]
     fn frame(&mut self, ram: &Ram, root: FrameNo, va: u64, access: Access) -> Option<FrameNo>
-        ensures found { IsFound (Keeps N self.old.kept) ram.now root.0 va access (numbered result) }
-        ensures inside { HoldsInside (Keeps N self.old.kept) ram.now → IfSome result (λ f. f.0 < length ram.now) }
-        ensures kept { IsKept (Keeps N self.old.kept) (Keeps N self.new.kept) ram.now root.0 }
-        ensures hit { Hits (Keeps N self.old.kept) root.0 va access
-            (λ f. (numbered result ≡ Some f) × (self.new ≡ self.old)) }
-        ensures walks { Misses (Keeps N self.old.kept) root.0 va access →
-            (numbered result ≡ (walk_page ram.now root.0 (va / 4096) access).frame)
-            × (self.new.reads ≡ (self.old.reads + walk_count ram.now root.0 va access) % 2 ^ 64) }
-        ensures joins { IfSome result (λ f. Keeps N self.new.kept (asked root.0 va access f.0)) }
-        ensures stays { KeepsOthers N (va / 4096) (Keeps N self.old.kept) (Keeps N self.new.kept) }
+        ensures { RecallsOrWalks N self.old self.new ram.now root.0 va access (placed va (numbered result)) }
     {
         if let Some(frame) = self.places.kept(root, va, access) {
             return Some(frame);
@@ -94,17 +78,7 @@ impl<const N: usize> Translate for Tlb<N> {
 
     #[inline(always)]
     fn translate(&mut self, ram: &Ram, root: FrameNo, va: u64, access: Access) -> Result<Pa, Fault>
-        ensures answer { IsAnswer (Keeps N self.old.kept) ram.now root.0 va access (result_ok result) }
-        // what is held may be of another memory: where it lies inside this one, so does the result
-        ensures inside { HoldsInside (Keeps N self.old.kept) ram.now → IfOk result (LiesInside ram.now) }
-        ensures kept { IsKept (Keeps N self.old.kept) (Keeps N self.new.kept) ram.now root.0 }
-        ensures hit { Hits (Keeps N self.old.kept) root.0 va access
-            (λ f. (result ≡ Ok (place_in va f)) × (self.new ≡ self.old)) }
-        ensures walks { Misses (Keeps N self.old.kept) root.0 va access →
-            (result_ok result ≡ walk ram.now root.0 va access)
-            × (self.new.reads ≡ (self.old.reads + walk_count ram.now root.0 va access) % 2 ^ 64) }
-        ensures joins { IfOk result (Reaches (Keeps N self.new.kept) root.0 va access) }
-        ensures stays { KeepsOthers N (va / 4096) (Keeps N self.old.kept) (Keeps N self.new.kept) }
+        ensures { RecallsOrWalks N self.old self.new ram.now root.0 va access result }
     {
         match self.frame(ram, root, va, access) {
             Some(frame) => Ok(address(frame, va)),

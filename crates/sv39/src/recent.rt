@@ -1,9 +1,9 @@
 //! A translator that remembers what another one returned.
-ghost use Rattle.std.specs.Prelude.{◌≡◌, ◌+◌, ◌-◌, ◌*◌, ◌/◌, ◌<◌, ◌⊎◌, List, length, Some, IfSome, IfNone, IfOk};
-ghost use Rattle.std.specs.Result.{result_ok};
-ghost use Rattle.unixmodel.specs.Translation.{place_in, Translation, IsAnswer, IsKept, HoldsNothing, HoldsInside};
-ghost use Rattle.sv39.specs.Lookaside.{Hits, IsFound, KeepsOthers, Misses, Reaches, Knows, Remembers, asked};
-ghost use Rattle.sv39.specs.Walk.{LiesInside, numbered};
+ghost use Rattle.std.specs.Prelude.{◌≡◌, ◌+◌, ◌-◌, ◌*◌, ◌/◌, ◌<◌, ◌⊎◌, List, length, IfSome};
+ghost use Rattle.unixmodel.specs.Translation.{Translation, IsKept, HoldsNothing, HoldsInside};
+ghost use Rattle.sv39.specs.Lookaside.{IsFound, Knows, Remembers};
+ghost use Rattle.sv39.specs.Translating.{Asks, RecallsOrAsks, placed};
+ghost use Rattle.sv39.specs.Walk.{numbered};
 
 use crate::places::Places;
 use crate::{Access, BASE, Fault, Pa, Translate, address};
@@ -62,13 +62,7 @@ impl<T: Translate> Recent<T> {
     #[inline(never)]
     fn ask(&mut self, ram: &Ram, root: FrameNo, va: u64, access: Access) -> Option<FrameNo>
         requires { HoldsInside (T.held self.old.below) ram.now }
-        ensures found { IsFound (T.held self.old.below) ram.now root.0 va access (numbered result) }
-        ensures inside { IfSome result (λ f. f.0 < length ram.now) }
-        ensures kept { IsKept (Knows T.held self.old.below self.old.places)
-            (Knows T.held self.new.below self.new.places) ram.now root.0 }
-        ensures below { IsKept (T.held self.old.below) (T.held self.new.below) ram.now root.0 }
-        ensures joins { IfSome result (λ f. Remembers self.new.places (asked root.0 va access f.0)) }
-        ensures stays { KeepsOthers 256 (va / 4096) (Remembers self.old.places) (Remembers self.new.places) }
+        ensures { Asks T.held self.old self.new ram.now root.0 va access (numbered result) }
     {
         let frame = frame_by(&mut self.below, ram, root, va, access)?;
         self.places.keep(root, va / 4096, access, frame);
@@ -80,18 +74,7 @@ impl<T: Translate> Recent<T> {
     #[inline(always)]
     fn frame(&mut self, ram: &Ram, root: FrameNo, va: u64, access: Access) -> Option<FrameNo>
         requires { HoldsInside (Knows T.held self.old.below self.old.places) ram.now }
-        ensures found { IsFound (Knows T.held self.old.below self.old.places) ram.now root.0 va access
-            (numbered result) }
-        ensures inside { IfSome result (λ f. f.0 < length ram.now) }
-        ensures kept { IsKept (Knows T.held self.old.below self.old.places)
-            (Knows T.held self.new.below self.new.places) ram.now root.0 }
-        ensures hit { Hits (Remembers self.old.places) root.0 va access
-            (λ f. (numbered result ≡ Some f) × (self.new ≡ self.old)) }
-        ensures miss { Misses (Remembers self.old.places) root.0 va access →
-            IsFound (T.held self.old.below) ram.now root.0 va access (numbered result)
-            × IsKept (T.held self.old.below) (T.held self.new.below) ram.now root.0 }
-        ensures joins { IfSome result (λ f. Remembers self.new.places (asked root.0 va access f.0)) }
-        ensures stays { KeepsOthers 256 (va / 4096) (Remembers self.old.places) (Remembers self.new.places) }
+        ensures { RecallsOrAsks T.held self.old self.new ram.now root.0 va access (placed va (numbered result)) }
     {
         if let Some(frame) = self.places.kept(root, va, access) {
             return Some(frame);
@@ -106,18 +89,7 @@ impl<T: Translate> Translate for Recent<T> {
     #[inline(always)]
     fn translate(&mut self, ram: &Ram, root: FrameNo, va: u64, access: Access) -> Result<Pa, Fault>
         requires { HoldsInside (Knows T.held self.old.below self.old.places) ram.now }
-        ensures answer { IsAnswer (Knows T.held self.old.below self.old.places) ram.now root.0 va access
-            (result_ok result) }
-        ensures inside { IfOk result (LiesInside ram.now) }
-        ensures kept { IsKept (Knows T.held self.old.below self.old.places)
-            (Knows T.held self.new.below self.new.places) ram.now root.0 }
-        ensures hit { Hits (Remembers self.old.places) root.0 va access
-            (λ f. (result ≡ Ok (place_in va f)) × (self.new ≡ self.old)) }
-        ensures miss { Misses (Remembers self.old.places) root.0 va access →
-            IsAnswer (T.held self.old.below) ram.now root.0 va access (result_ok result)
-            × IsKept (T.held self.old.below) (T.held self.new.below) ram.now root.0 }
-        ensures joins { IfOk result (Reaches (Remembers self.new.places) root.0 va access) }
-        ensures stays { KeepsOthers 256 (va / 4096) (Remembers self.old.places) (Remembers self.new.places) }
+        ensures { RecallsOrAsks T.held self.old self.new ram.now root.0 va access result }
     {
         match self.frame(ram, root, va, access) {
             Some(frame) => Ok(address(frame, va)),
