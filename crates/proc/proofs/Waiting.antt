@@ -92,31 +92,23 @@ pub looks-begin : {says : ℕ → Bool → Type 0} (last : ℕ) (awake : List Bo
     → ((i : ℕ) → is_in awake i ≡ false → says i false) → IsLooking says last awake 1
 looks-begin last awake asleep = record { passed = looked-none; asleep = asleep }
 
+-- a slot that isn't ready is put to sleep
 module _ {says : ℕ → Bool → Type 0} {last : ℕ} {awake : List Bool} {turn : ℕ} (looks : IsLooking says last awake turn)
-    {next : ℕ} (is : IsNext awake last turn next) where
-  pub first-says : says (place_in_round last next) true → IsFirst says last (place_in_round last next)
-  first-says = looked-first
-      (record {
-        in_round = looks.passed.in_round;
-        before = λ k low high. looks.asleep (place_in_round last k) (looks.passed.before k low high);
-      }) awake
-      looks.asleep is
+    {next : ℕ} (is : IsNext awake last turn next) (all : length awake ≡ 64)
+    (no' : says (place_in_round last next) false) where
+  abbrev at : ℕ
+  at = place_in_round last next
 
-  -- a slot that isn't ready is put to sleep
-  module _ (all : length awake ≡ 64) (no' : says (place_in_round last next) false) where
-    abbrev at : ℕ
-    at = place_in_round last next
+  gone : (i : ℕ) → is_in awake i ≡ false → is_in (slice_set awake at false) i ≡ false
+  gone = set-all (λ i b. is_in awake i ≡ false → b ≡ false) awake at true (λ _. refl) (λ i out. out)
 
-    gone : (i : ℕ) → is_in awake i ≡ false → is_in (slice_set awake at false) i ≡ false
-    gone = set-all (λ i b. is_in awake i ≡ false → b ≡ false) awake at true (λ _. refl) (λ i out. out)
-
-    pub looks-on : IsLooking says last (slice_set awake at false) (next + 1)
-    looks-on = record {
-      passed = looked-on (record
-          { in_round = looks.passed.in_round; before = λ k low high. gone _ (looks.passed.before k low high) }) awake
-          gone is (get_or-set_same awake at false true (omega arith));
-      asleep = set-all (λ i b. b ≡ false → says i false) awake at true (λ _. no') looks.asleep;
-    }
+  pub looks-on : IsLooking says last (slice_set awake at false) (next + 1)
+  looks-on = record {
+    passed = looked-on (record
+        { in_round = looks.passed.in_round; before = λ k low high. gone _ (looks.passed.before k low high) }) awake
+        gone is (get_or-set_same awake at false true (omega arith));
+    asleep = set-all (λ i b. b ≡ false → says i false) awake at true (λ _. no') looks.asleep;
+  }
 
 -- ---- the first slot of a mask from one on: a round that begins after the last slot
 

@@ -5,3 +5,4 @@ pub mod Places
 pub mod Sound
 pub mod Lending
 pub mod Next
+pub mod Picked

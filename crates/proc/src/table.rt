@@ -171,7 +171,7 @@ impl Table {
     ghost use Rattle.proc.specs.Places.{with_mode, with_running, without, woken, zombie_place};
     ghost use Rattle.proc.specs.Lending.{LendsProcess};
     ghost use Rattle.proc.specs.Pick.{Answers, Picks};
-    ghost use Rattle.proc.specs.Mask.{Passes};
+    ghost use Rattle.proc.specs.Picked.{PicksFirst};
     ghost use Rattle.proc.specs.Waits.{FindsWaiting};
 
     /// Free slots. The first process gets this pid, and a turn looks at each slot at least once.
@@ -380,12 +380,7 @@ impl Table {
     pub fn pick<F: Fn(&[Place], usize) -> bool>(&mut self, ready: F) -> Option<usize>
         requires callable { F.IsAlwaysCallable ready }
         requires awake { (i : ℕ) → is_awake self.old i ≡ false → Answers F.Fn ready self.old.places i false }
-        ensures first { Picks (Answers F.Fn ready self.old.places) self.old.last result }
-        ensures picked { IfSome result (λ i. self.new ≡ record self.old { last = i; awake = self.new.awake }) }
-        ensures within { IfSome result (λ i. i < 64) }
-        ensures none { IfNone result (self.new ≡ record self.old { awake = self.new.awake }) }
-        ensures awake { (i : ℕ) → is_awake self.new i ≡ false → Answers F.Fn ready self.old.places i false }
-        ensures passed { Passes self.new.awake self.old.last result }
+        ensures { PicksFirst (Answers F.Fn ready self.old.places) self.old self.new result }
     {
         let mut turn = 1;
         'round: while let Some(next) = self.awake.next(self.last, turn) {

@@ -1,5 +1,5 @@
-use Rattle.proc.proofs.Common.{[], ap, refl, subst, ◌∙◌, ◌≡◌, Answers, IsFirst, place_in_round, Places, Inside}
-use Rattle.proc.proofs.Waiting.{first-says, looks-begin, looks-on}
+use Rattle.proc.proofs.Common.{[], ap, refl, Places, Inside}
+use Rattle.proc.proofs.Waiting.{looks-begin, looks-on}
 use Rattle.proc.proofs.table.Table.pick.Goals as goal
 
 -- what a pick leaves as it is until it is done
@@ -19,17 +19,3 @@ round-preserved g c = (
         says = record { met = rw c.if-ready.false at c.ready.ensures };
       })),
 )
-
-pub returns-then-ready-clause-first : goal.returns-then-ready-clause-first
-returns-then-ready-clause-first g c =
-    let t = c.round.self-inside in
-    let same : kept_of t ≡ record c.args.self.now { awake = [] } = ap kept_of c.round.invariant.0
-    ∙ ap (λ (x : Places). record x { awake = [] }) c.self.view_is in
-    subst (λ (x : Places). IsFirst (Answers g.F.Fn c.args.ready x.places) x.last
-    (place_in_round t.last c.in-Some.next)) same
-    (first-says c.round.invariant.1 c.in-Some.ensures.finds
-    (record {
-      shown = _;
-      shows = c.as_slice.ensures.value;
-      says = record { met = rw c.if-ready.true at c.ready.ensures };
-    }))
