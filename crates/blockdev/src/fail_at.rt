@@ -1,6 +1,6 @@
 //! A device of which one access fails, to see how its callers take a failure.
 
-ghost use Rattle.std.specs.Prelude.{◌≡◌, ◌≢◌, ℕ, ◌-◌, ◌<◌, ◌↔◌, IfOk, IfSome, IsErr, IsTrue, None, OnOk, length};
+ghost use Rattle.std.specs.Prelude.{◌≡◌, ℕ, ◌-◌, ◌<◌, ◌↔◌, IfOk, IfSome, IsErr, IsTrue, None, OnOk, length};
 ghost use Rattle.std.specs.Prelude.{slice_set};
 ghost use Rattle.std.specs.Bool.{OnTrue, OnFalse};
 ghost use Rattle.std.specs.Int.NonZero.{non_zero_u64_get};
@@ -57,7 +57,7 @@ impl<D: BlockDev> FailAt<D> {
 
 impl<D: BlockDev> BlockDev for FailAt<D> {
     ghost use Rattle.blockdev.specs.Blocks.{block_at};
-    ghost use Rattle.blockdev.specs.Disk.{Failing, counted};
+    ghost use Rattle.blockdev.specs.Disk.{CountsDown, Failing, counted};
 
     ghost content = { λ d. D.content d.device };
 
@@ -77,10 +77,7 @@ impl<D: BlockDev> BlockDev for FailAt<D> {
         ensures same { D.content self.new.device ≡ D.content self.old.device }
         ensures identity { D.identity self.new.device ≡ D.identity self.old.device }
         ensures cause { HasCause (counted D.failures self.old) (counted D.failures self.new) result }
-        ensures left { self.new.left ≡ self.old.left - 1 }
-        ensures fails { self.old.left ≡ 1 → IsErr result }
-        ensures untouched { self.old.left ≡ 1 → self.new.device ≡ self.old.device }
-        ensures passes { self.old.left ≢ 1 → HasCause (D.failures self.old.device) (D.failures self.new.device) result }
+        ensures counts { CountsDown D.failures self.old self.new result }
     {
         spend(&mut self.left)?;
         self.device.read(n)
@@ -92,10 +89,7 @@ impl<D: BlockDev> BlockDev for FailAt<D> {
         ensures count { length (D.content self.new.device) ≡ length (D.content self.old.device) }
         ensures identity { D.identity self.new.device ≡ D.identity self.old.device }
         ensures cause { HasCause (counted D.failures self.old) (counted D.failures self.new) result }
-        ensures left { self.new.left ≡ self.old.left - 1 }
-        ensures fails { self.old.left ≡ 1 → IsErr result }
-        ensures untouched { self.old.left ≡ 1 → self.new.device ≡ self.old.device }
-        ensures passes { self.old.left ≢ 1 → HasCause (D.failures self.old.device) (D.failures self.new.device) result }
+        ensures counts { CountsDown D.failures self.old self.new result }
     {
         spend(&mut self.left)?;
         self.device.write(n, block)
