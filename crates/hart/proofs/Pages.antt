@@ -5,6 +5,8 @@ use Rattle.hart.proofs.Common.{At, Behind, eq-eqb, IsOp, KeepsWords, seen_in, So
 use Rattle.hart.proofs.Common.{length, List, Next, None, trap_of, word_by, ◌/◌}
 use Rattle.hart.proofs.Common.{Op, op_by, Ram, refl, slice_index, slice_index_or, slice_set, StayLive, subst, sym, true}
 use Rattle.hart.proofs.Common.{word_of, ℕ, ◌%◌, ◌&&◌, ◌*◌, ◌+◌, ◌<◌, ◌==◌, ◌∙◌, ◌≡◌, ◌≢◌, ◌≤◌, ◌⊎◌}
+use Rattle.byteorder.specs.Endian.{little_number}
+use Rattle.std.specs.Prelude.{[]}
 use Rattle.std.proofs.Math.ListN.{replicate}
 use Rattle.std.proofs.lemmas.List.{get_or-drop, get_or-replicate, length-drop}
 use Rattle.ram.specs.declared.FrameNo.{FrameNo}
@@ -267,3 +269,12 @@ still-known frames frames' sets s pages ram ram' f at p within is live stay chec
           rw page (λ part below marked k since less.
           before g fits stays.0 at' is' d part below marked k since less ∙ sym (stays.1 k))
     ]
+
+-- a frame whose page is not known has other bytes
+pub other-written : (frames : List ℕ) (sets : List Set) (pages : List Page) (ram : Ram) (bytes : List ℕ) (f : ℕ)
+    → (IsLive frames f → ⊥) → AreKnown frames sets pages ram → AreKnown frames sets pages (slice_set ram f bytes)
+unfolding word_of
+other-written frames sets pages ram bytes f not known g fits live at is d p below marked k since less =
+    let other = get_or-set_other ram f g bytes [] (λ same. not (subst (IsLive frames) same live)) in
+    known g fits live at is d p below marked k since less
+    ∙ ap (λ frame. little_number 4 (drop (4 * k) frame)) (sym other)

@@ -1,5 +1,5 @@
 //! What is known of decoded words from run to run.
-ghost use Rattle.std.specs.Prelude.{ℕ, IfOk, List};
+ghost use Rattle.std.specs.Prelude.{ℕ, IfOk, List, slice_set};
 ghost use Rattle.hart.specs.Known.{AreKnown};
 ghost use Rattle.hart.specs.Recalled.{Knows};
 
@@ -8,6 +8,7 @@ use crate::in_page::PART;
 use crate::live::{Live, SETS, Set, WAYS};
 use crate::operation::Op;
 use crate::page::{OPS, Page, WORDS};
+use ram::FrameNo;
 use std::alloc::{AllocError, Global};
 
 impl Decoded {
@@ -44,6 +45,17 @@ impl Decoded {
         ensures { (ram : List (List ℕ)) → Knows self.new ram }
     {
         self.is_current = false;
+    }
+
+    /// Forgets what is known of pages where that of a frame is known, whose bytes are others now.
+    #[inline(always)]
+    pub fn forget_frame(&mut self, frame: FrameNo)
+        ensures { (ram : List (List ℕ)) (bytes : List ℕ) → Knows self.old ram →
+            Knows self.new (slice_set ram frame.0 bytes) }
+    {
+        if self.live.has(frame.0) {
+            self.forget();
+        }
     }
 
     /// What is known of pages still holds afterwards: what was forgotten is no longer there.

@@ -3,10 +3,11 @@ use Rattle.spaces.proofs.Common.{Ram, Held, ◌<◌, ap, get_or-set_same, length
 use Rattle.spaces.proofs.Common.{subst, sym, ℕ, ◌∙◌, ◌≡◌, ◌≤◌, set-get_or, refill, Frames, FrameNo, IsCoherent, slot}
 use Rattle.spaces.proofs.Common.{Memory, Translation, OthersUntouched, entries_of, IsUntouched, pages_of, Space}
 use Rattle.spaces.proofs.Common.{SpaceView, taken_frames, with_place, IsLoaded, IsSpaces, Runs, shown, Spaces}
-use Rattle.spaces.proofs.Common.{spaces_of, view_with, Inside}
+use Rattle.spaces.proofs.Common.{spaces_of, view_with, Inside, List, frame_of}
 use Rattle.frames.specs.declared.memory.Memory.{Memory as FrameMemory}
 use Rattle.spaces.proofs.SpacesLemmas.{Places, map-placed}
 use Rattle.hart.specs.declared.decoded.Decoded.{Decoded}
+use Rattle.hart.specs.Recalled.{Knows}
 
 -- a memory of these bytes, and who holds its frames
 abbrev pub with_holders : Ram → Frames → FrameMemory
@@ -110,3 +111,8 @@ anew d is = record {
   pipes = is.pipes;
   both = is.both;
 }
+
+-- one frame was written, and what is known holds of any bytes there
+pub known-after : (d : Decoded) (m : Ram) {k : Ram} (f : ℕ) → ((bytes : List ℕ) → Knows d (slice_set m f bytes))
+    → k ≡ slice_set m f (frame_of k f) → Knows d k
+known-after d m {k} f knows alone = subst (λ n. Knows d n) (sym alone) (knows (frame_of k f))

@@ -232,7 +232,7 @@ module _ {T : Type 0} {held : T → Held} {i : Inside T} (is : IsSpaces held i) 
       (shown-as k x memory x.size pages refl)
 
   -- a page of a space is written in its own frame, so what is held stays: the slot shows this memory then
-  stood-showing : (at : ℕ) (x : Space) (k : Ram) (memory : Memory) → slot i.places.items at ≡ Some x
+  pub stood-showing : (at : ℕ) (x : Space) (k : Ram) (memory : Memory) → slot i.places.items at ≡ Some x
       → Stands i.memory.ram k x
       → pages_of k x ≡ memory → Placed held i (record i { memory = with_holders k i.memory.frames })
       at (Some (view_with memory x.size))
@@ -241,25 +241,6 @@ module _ {T : Type 0} {held : T → Held} {i : Inside T} (is : IsSpaces held i) 
       placed-as at (changed at x x i.translator e (same-place i.places.items at x e) (s.space i.memory.frames space)
       (s.trades i.memory.frames space) refl (λ u h. h) (λ a was. rw s.entries was))
       (shown-as k x memory x.size pages refl)
-
-  -- or it isn't written, and nothing changed
-  pub stored-sound : (at : ℕ) (x : Space) (k : Ram) (b : Bool) → slot i.places.items at ≡ Some x
-      → OnTrue b (Stands i.memory.ram k x) → OnFalse b (k ≡ i.memory.ram)
-      → IsSpaces held (record i { memory = with_holders k i.memory.frames })
-  stored-sound at x k true e stands same = (stood-showing at x k (pages_of k x) e stands refl).sound
-  stored-sound at x k false e stands same = rw same is
-
-  pub stored-showing : (at : ℕ) (x : Space) (k : Ram) (memory : Memory) (b : Bool) → slot i.places.items at ≡ Some x
-      → OnTrue b (Stands i.memory.ram k x) → OnTrue b (pages_of k x ≡ memory)
-      → OnTrue b (spaces_of (record i { memory = with_holders k i.memory.frames })
-      ≡ record (spaces_of i) { places = slice_set (spaces_of i).places at (Some (view_with memory x.size)) })
-  stored-showing at x k memory true e stands pages = (stood-showing at x k memory e stands pages).view
-  stored-showing at x k memory false e stands pages = tt
-
-pub stored-same : {T : Type 0} (i : Inside T) (k : Ram) (b : Bool) → OnFalse b (k ≡ i.memory.ram)
-    → OnFalse b (spaces_of (record i { memory = with_holders k i.memory.frames }) ≡ spaces_of i)
-stored-same i k true same = tt
-stored-same i k false same = rw same refl
 
 -- nothing changed
 pub view-same : {T : Type 0} (i : Inside T) (at : ℕ) (x : Space) (k : FrameMemory) (z : Space) (q : Places)

@@ -570,9 +570,12 @@ impl<T: Translate> Spaces<T> {
             (self.new ≡ with_view self.old at (written (view_at self.old at) address bytes.now)) }
         ensures refused { OnFalse result (self.new ≡ self.old) }
     {
-        self.decoded.forget();
         let space = space_at(&self.places, at);
-        space.store(&mut self.memory.ram, address, bytes)
+        let Some(frame) = space.store(&mut self.memory.ram, address, bytes) else {
+            return false;
+        };
+        self.decoded.forget_frame(frame);
+        true
     }
 
     // The same for any bytes: pages may get other frames. It is out of line, as it is seldom done.
@@ -803,8 +806,8 @@ impl<T: Translate> Spaces<T> {
         ensures bytes { self.new ≡ put_behind self.old q bytes.now }
         ensures count { result ≡ length (fitting (bytes_in self.old q) bytes.now) }
     {
-        self.decoded.forget();
         let pipe = self.pipes[q].as_mut().unwrap();
+        self.decoded.forget_frame(pipe.frame());
         put_in(pipe, &mut self.memory.ram, bytes)
     }
 

@@ -14,7 +14,7 @@ use Rattle.vm.proofs.BesideLemmas.{owns-as, stays-put, StaysPut, held-not_free, 
 use Rattle.vm.proofs.HeldLemmas.{count-held, page-held, pages-apart, table-held}
 use Rattle.vm.proofs.DenseLemmas.{frame_at-same, IsDense-same, marks_at-same}
 use Rattle.vm.proofs.PageLemmas.{get_or-pages, length-pages, get-mapping, mapped-page}
-use Rattle.ram.proofs.MemoryLemmas.{sized-full}
+use Rattle.ram.proofs.MemoryLemmas.{frame_of-put_same, sized-full}
 use Rattle.vm.proofs.ReachLemmas.{item-at}
 
 -- only frames of pages and the trap frame have other bytes now
@@ -350,3 +350,10 @@ part-put m f at bs page new n is fits whole same e =
       length-drop (at + length bs) (frame_of m f),
     ) in
     ap (λ b. slice_set m f (sized b)) parts ∙ ap (slice_set m f) (sized-full _ full)
+
+-- bytes are put into a frame: it alone has others
+pub put-alone : (m : Ram) (f o : ℕ) (bs : List ℕ) {k : Ram} → f < length m → k ≡ put m f o bs
+    → k ≡ slice_set m f (frame_of k f)
+unfolding put
+put-alone m f o bs within e =
+    e ∙ ap (slice_set m f) (sym (ap (λ (n : Ram). frame_of n f) e ∙ frame_of-put_same m f o bs within))

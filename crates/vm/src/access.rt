@@ -3,7 +3,7 @@
 ghost use Rattle.std.specs.Bool.{OnFalse, OnTrue};
 ghost use Rattle.std.specs.Prelude.{◌≡◌, ◌≢◌, ℕ, ◌+◌, ◌-◌, ◌*◌, ◌/◌, ◌%◌, ◌^◌, ◌<◌, ◌≤◌, List, [], ◌∷◌, ◌++◌, length};
 ghost use Rattle.std.specs.Prelude.{min, drop, nat_le, option_map, slice_get, None, Some, false, true, OnOk, OnErr};
-ghost use Rattle.std.specs.Prelude.{IfSome, IsTrue, IsErrOf, ◌↔◌, ◌⊎◌};
+ghost use Rattle.std.specs.Prelude.{IfNone, IfSome, IsTrue, IsErrOf, slice_set, ◌↔◌, ◌⊎◌};
 ghost use Rattle.ram.specs.Memory.{frame_of, put};
 ghost use Rattle.sv39.specs.Mapping.{AreApart, AreInside, WalksTo};
 ghost use Rattle.unixmodel.specs.declared.trap.Access.TheVariants.{Load, Store};
@@ -266,25 +266,24 @@ impl Space {
         }
     }
 
-    /// Writes bytes into a page where a store goes through: no page gets another frame. `false`: there are none, they
-    /// don't all lie in one page, or it isn't such a page; nothing is written then.
-    pub fn store(&self, ram: &mut Ram, address: u64, bytes: &[u8]) -> bool
+    /// Writes bytes into a page where a store goes through, and returns the frame that it has: no page gets another
+    /// frame. `None`: there are none, they don't all lie in one page, or it isn't such a page; nothing is written then.
+    pub fn store(&self, ram: &mut Ram, address: u64, bytes: &[u8]) -> Option<FrameNo>
         requires mapped { IsMapped ram.old self.now }
         requires once { IsOnce ram.old self.now }
-        ensures written { OnTrue result (pages_of ram.new self.now ≡ stored ram.old self.now address bytes.now) }
-        ensures stands { OnTrue result (Stands ram.old ram.new self.now) }
-        ensures refused { OnFalse result (ram.new ≡ ram.old) }
+        ensures written { IfSome result (λ f. pages_of ram.new self.now ≡ stored ram.old self.now address bytes.now) }
+        ensures stands { IfSome result (λ f. Stands ram.old ram.new self.now) }
+        ensures alone { IfSome result (λ f. ram.new ≡ slice_set ram.old f.0 (frame_of ram.new f.0)) }
+        ensures refused { IfNone result (ram.new ≡ ram.old) }
     {
         let at = (address % 4096) as usize;
         let len = bytes.len();
         if len == 0 || len > 4096 - at {
-            return false;
+            return None;
         }
-        let Some(frame) = self.open_frame(ram, address / 4096) else {
-            return false;
-        };
+        let frame = self.open_frame(ram, address / 4096)?;
         write_part(ram, frame, at, bytes);
-        true
+        Some(frame)
     }
 
     // Writes the bytes that lie in the page of an address, and returns how many.

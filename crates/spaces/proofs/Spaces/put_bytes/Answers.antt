@@ -3,7 +3,7 @@ use Rattle.spaces.proofs.Spaces.put_bytes.Goals as goal
 use Rattle.spaces.proofs.Spaces.put_bytes.Goals.{After-put_in}
 use Rattle.spaces.proofs.Common.{bytes_of, Some, ap, sym}
 use Rattle.spaces.proofs.Piped.{Piped, pipe-found, pipe-frame, pipe-is, piped-as, piped-written, set_pipe}
-use Rattle.spaces.proofs.Shown.{anew}
+use Rattle.spaces.proofs.Shown.{anew, known-after}
 
 pub put_in-requires : goal.put_in-requires
 put_in-requires g c =
@@ -25,7 +25,12 @@ wrote g c =
     c.put_in.ensures.stays c.put_in.ensures.memory
 
 pub invariant_of-self : goal.invariant_of-self
-invariant_of-self g c = record { spaces = anew _ ((wrote g (goal.at.invariant_of-self g c).After-put_in).sound); known = c.forget.ensures _ }
+invariant_of-self g c = record {
+  spaces = anew _ (wrote g (goal.at.invariant_of-self g c).After-put_in).sound;
+  known = known-after c.forget_frame.new.self c.self.inside.memory.ram c.frame.result.0
+      (λ bytes. c.forget_frame.ensures c.self.inside.memory.ram bytes c.self.invariant.known)
+      (rw c.frame.ensures.frame c.put_in.ensures.memory);
+}
 
 pub returns : goal.returns
 returns g c =
