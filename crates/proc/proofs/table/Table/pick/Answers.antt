@@ -1,10 +1,6 @@
-use Rattle.proc.proofs.Common.{[], ap, refl, Places, Inside}
+use Rattle.proc.proofs.Common.{ap, refl, Inside}
 use Rattle.proc.proofs.Waiting.{looks-begin, looks-on}
 use Rattle.proc.proofs.table.Table.pick.Goals as goal
-
--- what a pick leaves as it is until it is done
-abbrev kept_of : Inside → Places
-kept_of t = record { places = t.places.items; last = t.last; next_pid = t.next_pid; awake = [] }
 
 pub round-init : goal.round-init
 round-init g c = (refl, looks-begin _ _ (rw (← c.self.view_is) at c.requires.awake))
