@@ -10,7 +10,8 @@ pub space_at-space-requires : goal.space_at-space-requires
 space_at-space-requires g c = stands-there c.self.inside c.args.from (rw (← c.self.view_is) at c.requires.from)
 
 pub copy-requires : goal.copy-requires
-copy-requires g c = c.self.invariant.spaces.machine.each c.args.from c.space_at-space.result.now c.space_at-space.ensures
+copy-requires g c = c.self.invariant.spaces.machine.each c.args.from c.space_at-space.result.now
+    c.space_at-space.ensures
 
 made : (g : given.Over) (c : After-fence_loaded g)
     → Shows g.T.Translate.held c.self.inside
@@ -25,7 +26,8 @@ made g c =
     there.pages there.size
 
 pub invariant_of-self : goal.invariant_of-self
-invariant_of-self g c = record { spaces = anew _ ((made g (goal.at.invariant_of-self g c).After-fence_loaded).sound); known = c.forget.ensures _ }
+invariant_of-self g c = record
+    { spaces = anew _ ((made g (goal.at.invariant_of-self g c).After-fence_loaded).sound); known = c.forget.ensures _ }
 
 pub returns-in-Ok-clause-done : goal.returns-in-Ok-clause-done
 returns-in-Ok-clause-done g c =

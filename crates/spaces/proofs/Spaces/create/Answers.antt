@@ -14,7 +14,8 @@ made g c = settled-there c.self.invariant.spaces c.args.at c.in-Ok.space c.requi
     c.in-Ok.ensures.made.trades c.in-Ok.ensures.made.size
 
 pub invariant_of-self : goal.invariant_of-self
-invariant_of-self g c = record { spaces = anew _ ((made g (goal.at.invariant_of-self g c).After-deref_mut).sound); known = c.forget.ensures _ }
+invariant_of-self g c = record
+    { spaces = anew _ ((made g (goal.at.invariant_of-self g c).After-deref_mut).sound); known = c.forget.ensures _ }
 
 pub returns-in-Ok-clause-done : goal.returns-in-Ok-clause-done
 returns-in-Ok-clause-done g c =

@@ -19,7 +19,8 @@ made g c =
     (ap Some (made.empty c.self.inside.memory.ram))
 
 pub invariant_of-self : goal.invariant_of-self
-invariant_of-self g c = record { spaces = (made g (goal.at.invariant_of-self g c).After-deref_mut).sound; known = c.self.invariant.known }
+invariant_of-self g c = record
+    { spaces = (made g (goal.at.invariant_of-self g c).After-deref_mut).sound; known = c.self.invariant.known }
 
 pub returns-in-Some-clause-done : goal.returns-in-Some-clause-done
 returns-in-Some-clause-done g c =

@@ -23,7 +23,8 @@ gone g c =
     still.ensures.gone c.deref_mut.ensures.value c.take.ensures.after c.destroy.ensures.valid c.destroy.ensures.trades
 
 pub invariant_of-self : goal.invariant_of-self
-invariant_of-self g c = record { spaces = anew _ ((gone g (goal.at.invariant_of-self g c).After-destroy).sound); known = c.forget.ensures _ }
+invariant_of-self g c = record
+    { spaces = anew _ ((gone g (goal.at.invariant_of-self g c).After-destroy).sound); known = c.forget.ensures _ }
 
 pub returns : goal.returns
 returns g c = rw (← c.self.view_is) (gone g (goal.at.returns g c).After-destroy).view

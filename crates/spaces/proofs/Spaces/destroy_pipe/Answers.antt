@@ -29,7 +29,8 @@ gone g c =
     (λ more. (c.give.ensures.stays (rw frame more)).1)
 
 pub invariant_of-self : goal.invariant_of-self
-invariant_of-self g c = record { spaces = anew _ ((gone g (goal.at.invariant_of-self g c).After-give).sound); known = c.forget.ensures _ }
+invariant_of-self g c = record
+    { spaces = anew _ ((gone g (goal.at.invariant_of-self g c).After-give).sound); known = c.forget.ensures _ }
 
 pub returns : goal.returns
 returns g c = rw (← c.self.view_is) (gone g (goal.at.returns g c).After-give).view

@@ -32,7 +32,8 @@ more g c =
     (entries_of c.grow.new.memory.ram c.grow.new.self) front was)
 
 pub invariant_of-self : goal.invariant_of-self
-invariant_of-self g c = record { spaces = anew _ ((more g (goal.at.invariant_of-self g c).After-grow).sound); known = c.forget.ensures _ }
+invariant_of-self g c = record
+    { spaces = anew _ ((more g (goal.at.invariant_of-self g c).After-grow).sound); known = c.forget.ensures _ }
 
 pub returns-clause-done : goal.returns-clause-done
 returns-clause-done g c =
@@ -62,7 +63,8 @@ returns-clause-refused g c =
     ⊎ (frames_for (pages_in x.size) + free_count i.memory.ram i.memory.frames
     < frames_for (pages_in (x.size + c.args.bytes))) =
     elim why [ inl large ↦ inl (c.grow.ensures.large.0 large) | inr full ↦ inr (c.grow.ensures.full.0 full).1 ] in (
-      over-grown c.self.invariant.spaces c.args.at x c.args.bytes (marks_from c.args.perm) e c.frames_are_whole.ensures.small
+      over-grown c.self.invariant.spaces c.args.at x c.args.bytes (marks_from c.args.perm) e
+          c.frames_are_whole.ensures.small
           more,
       view-same i c.args.at x c.grow.new.memory c.grow.new.self _ u e
           (refilled c.args.at c.deref_mut.ensures.value refl),

@@ -21,7 +21,8 @@ wrote : (g : given.Over) (c : After-put_in g)
 wrote g c =
     let e = pipe-found c.self.inside c.args.q _ (rw (← c.self.view_is) at c.requires) c.deref_mut.ensures.value
     (sym (rw c.unwrap-pipe.ensures at c.as_mut.ensures.value)) in
-    piped-written c.self.invariant.spaces c.args.q c.unwrap-pipe.result.now c.put_in.new.pipe _ e c.deref_mut.ensures.value
+    piped-written c.self.invariant.spaces c.args.q c.unwrap-pipe.result.now c.put_in.new.pipe _ e
+    c.deref_mut.ensures.value
     c.put_in.ensures.stays c.put_in.ensures.memory
 
 pub invariant_of-self : goal.invariant_of-self

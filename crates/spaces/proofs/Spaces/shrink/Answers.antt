@@ -34,7 +34,8 @@ less g c =
     (x.size - c.args.bytes) c.shrink.ensures.pages size)
 
 pub invariant_of-self : goal.invariant_of-self
-invariant_of-self g c = record { spaces = anew _ ((less g (goal.at.invariant_of-self g c).After-fence_loaded).sound); known = c.forget.ensures _ }
+invariant_of-self g c = record
+    { spaces = anew _ ((less g (goal.at.invariant_of-self g c).After-fence_loaded).sound); known = c.forget.ensures _ }
 
 pub returns : goal.returns
 returns g c = rw (

@@ -20,11 +20,13 @@ left : (g : given.Over) (c : After-take_out g)
 left g c =
     let e = pipe-found c.self.inside c.args.q _ (rw (← c.self.view_is) at c.requires) c.deref_mut.ensures.value
     (sym (rw c.unwrap-pipe.ensures at c.as_mut.ensures.value)) in
-    piped-written c.self.invariant.spaces c.args.q c.unwrap-pipe.result.now c.take_out.new.pipe _ e c.deref_mut.ensures.value
+    piped-written c.self.invariant.spaces c.args.q c.unwrap-pipe.result.now c.take_out.new.pipe _ e
+    c.deref_mut.ensures.value
     c.take_out.ensures.stays (sym (set-get_or c.self.inside.memory.ram c.unwrap-pipe.result.now.frame []))
 
 pub invariant_of-self : goal.invariant_of-self
-invariant_of-self g c = record { spaces = (left g (goal.at.invariant_of-self g c).After-take_out).sound; known = c.self.invariant.known }
+invariant_of-self g c = record
+    { spaces = (left g (goal.at.invariant_of-self g c).After-take_out).sound; known = c.self.invariant.known }
 
 pub returns : goal.returns
 returns g c =
