@@ -1,6 +1,7 @@
 mod Common
 pub mod Tables
 pub mod Added
+pub mod Adding
 pub mod Removed
 pub mod Empty
 pub mod DenseLemmas

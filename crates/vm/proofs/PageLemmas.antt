@@ -185,15 +185,17 @@ open-read m k r n first same is p high low =
     ∙ sym (ap (λ (a : Perm). a.writable) (marks right_marks))
 
 -- a leaf that is made open is so where the page is writable by right
-made-open : (leaf : ℕ) (g : Perm) → leaf ≡ user_leaf g true → is_open leaf ≡ (right_marks leaf).writable
+pub made-open : (leaf : ℕ) (g : Perm) → leaf ≡ user_leaf g true → is_open leaf ≡ (right_marks leaf).writable
 made-open leaf g made = ap is_open made ∙ leaf-open g
     ∙ sym (ap (λ (l : ℕ). (right_marks l).writable) made ∙ ap (λ (a : Perm). a.writable) (right-leaf g true))
 
 -- one page more, which is open
-pub open-more : (m k : Ram) (r n first : ℕ) (g : Perm) → SameLeaves m k r n → marks_at k r n ≡ user_leaf g true
-    → IsOpenFrom m r n first → IsOpenFrom k r (n + 1) first
-open-more m k r n first g same made is p high low = elim (cases_eq p n) [
-  | inl e ↦ made-open (marks_at k r p) g (ap (marks_at k r) e ∙ made)
+pub open-more : (m k : Ram) (r n first leaf : ℕ) → SameLeaves m k r n → marks_at k r n ≡ leaf
+    → is_open leaf ≡ (right_marks leaf).writable → IsOpenFrom m r n first → IsOpenFrom k r (n + 1) first
+open-more m k r n first leaf same made wide is p high low = elim (cases_eq p n) [
+  | inl e ↦
+      let at : marks_at k r p ≡ leaf = ap (marks_at k r) e ∙ made in
+      ap is_open at ∙ wide ∙ sym (ap (λ (l : ℕ). (right_marks l).writable) at)
   | inr ne ↦ open-read m k r n first same is p high (omega arith)
 ]
 

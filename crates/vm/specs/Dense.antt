@@ -1,6 +1,6 @@
 -- Address spaces, read off a memory.
-use Rattle.std.specs.Prelude.{◌≡◌, ◌≢◌, ◌==◌, ◌<◌, ◌≤◌, ℕ, zero, suc, ◌+◌, ◌/◌, ◌%◌, ◌^◌, if◌then◌else◌, nat_lt, true}
-use Rattle.std.specs.Prelude.{IfSome, List, [], ◌∷◌, ◌++◌, Option, Some, None, replicate, unwrap_or}
+use Rattle.std.specs.Prelude.{◌≡◌, ◌≢◌, ◌==◌, ◌<◌, ◌≤◌, ℕ, zero, suc, ◌+◌, ◌-◌, ◌/◌, ◌%◌, ◌^◌, if◌then◌else◌, nat_lt}
+use Rattle.std.specs.Prelude.{IfSome, List, [], ◌∷◌, ◌++◌, Option, Some, None, replicate, true, unwrap_or}
 use Rattle.ram.specs.Memory.{frame_of}
 use Rattle.ram.specs.declared.FrameNo.{FrameNo}
 use Rattle.frames.specs.declared.Frames.{Frames}
@@ -103,6 +103,12 @@ frames_for n = 4 + n + (n + 511) / 512 + one_if (nat_lt 0 n)
 -- this is the table whose entries map a page, where it is known
 abbrev pub IsTableFor : List (List ℕ) → ℕ → ℕ → Option FrameNo → Type 0
 IsTableFor m r page known = IfSome known (λ low. table_at m r (low_node page) ≡ Some low.0)
+
+-- the pages from `from` up to `to` are some of one table, and its first isn't among them
+pub record IsRun (from to : ℕ) : Type 0 where
+  pub some : from < to
+  pub one : (to - 1) / 512 ≡ from / 512
+  pub inner : from % 512 ≢ 0
 
 -- the tables from r map the pages below n, the trap frame, and nothing else
 pub record IsDense (m : List (List ℕ)) (r t n : ℕ) : Type 0 where

@@ -1,5 +1,5 @@
 -- What is done to spaces beside free frames, where a memory and who holds its frames are one value.
-use Rattle.std.specs.Prelude.{◌≡◌, ◌<◌, ◌≤◌, ℕ, ◌+◌, ◌-◌, [], ◌∷◌, ◌++◌, replicate, take, true}
+use Rattle.std.specs.Prelude.{◌≡◌, ◌<◌, ◌≤◌, ℕ, ◌+◌, ◌-◌, [], ◌++◌, replicate, take, true}
 use Rattle.frames.specs.declared.memory.Memory.{Memory}
 use Rattle.frames.specs.Holders.{count_of}
 use Rattle.frames.specs.Owned.{Trades, free_count, further_at}
@@ -9,9 +9,9 @@ use Rattle.unixmodel.specs.Memory.{shared_memory}
 use Rattle.vm.specs.declared.Perm.{Perm}
 use Rattle.vm.specs.declared.Space.{Space}
 use Rattle.vm.specs.Dense as dense
-use Rattle.vm.specs.Dense.{SameLeavesUpTo, blank_page, frames_for, marks_at, page_at, page_with}
+use Rattle.vm.specs.Dense.{IsOpenFrom, SameLeavesUpTo, blank_page, frames_for, marks_at, page_at, page_with}
 use Rattle.vm.specs.Fork as fork
-use Rattle.vm.specs.Leaf.{IsUserLeaf, user_leaf}
+use Rattle.vm.specs.Leaf.{IsUserLeaf, is_open, right_marks, user_leaf}
 use Rattle.vm.specs.Space as space
 use Rattle.vm.specs.Space.{HasFramesOf, SameOtherMarks, SameOtherPages, StaysOpen, entries_of, first_pages, held_by}
 use Rattle.vm.specs.Space.{holds, mapping_of, new_pages, page_frame, page_rights, pages_in, pages_of, registers_of}
@@ -69,15 +69,21 @@ pub record Creates (m k : Memory) (x : Space) : Type 0 where
   pub registers : registers_of k.ram x ≡ replicate 4096 0
   pub trades : Trades m k [] (holds k.ram x)
 
--- a page of zeros with the marks of this leaf was added after the first n of a space
-pub record AddsPage (m k : Memory) (x : Space) (n leaf : ℕ) : Type 0 where
-  pub held : HasPages k x (n + 1)
-  pub pages : first_pages k.ram x (n + 1) ≡ first_pages m.ram x n ++ (blank_page leaf ∷ [])
-  pub mapping : SameLeavesUpTo m.ram k.ram x.root.0 n
-  pub marks : marks_at k.ram x.root.0 n ≡ leaf
+-- new pages may have a leaf with these marks: a store goes through at them where they are writable by right
+pub record IsNewLeaf (leaf : ℕ) : Type 0 where
+  pub marks : IsLeafMarks leaf
+  pub user : IsUserLeaf leaf
+  pub wide : is_open leaf ≡ (right_marks leaf).writable
+
+-- pages of zeros with the marks of this leaf were added after the first `from` of a space, up to `to`
+pub record AddsPages (m k : Memory) (x : Space) (from to leaf : ℕ) : Type 0 where
+  pub held : HasPages k x to
+  pub pages : first_pages k.ram x to ≡ first_pages m.ram x from ++ replicate (to - from) (blank_page leaf)
+  pub mapping : SameLeavesUpTo m.ram k.ram x.root.0 from
+  pub opens : (first : ℕ) → IsOpenFrom m.ram x.root.0 from first → IsOpenFrom k.ram x.root.0 to first
   pub registers : registers_of k.ram x ≡ registers_of m.ram x
-  pub trades : Trades m k (held_by m.ram x n) (held_by k.ram x (n + 1))
-  pub room : frames_for (n + 1) + free_count k ≡ frames_for n + free_count m
+  pub trades : Trades m k (held_by m.ram x from) (held_by k.ram x to)
+  pub room : frames_for to + free_count k ≡ frames_for from + free_count m
 
 -- of the first `from` pages of a space those from `to` on went
 pub record DropsPages (m k : Memory) (x : Space) (from to : ℕ) : Type 0 where

@@ -11,7 +11,8 @@
 #![tactic(auto)]
 
 ghost use Rattle.std.specs.Prelude.{◌≡◌, ◌≢◌, ℕ, ◌+◌, ◌-◌, ◌*◌, ◌/◌, ◌%◌, ◌^◌, ◌<◌, ◌≤◌, List, [], ◌∷◌, ◌++◌, length};
-ghost use Rattle.std.specs.Prelude.{take, replicate, None, Some, true, false, OnOk, OnErr, IsErrOf, IsTrue, ◌↔◌, ◌⊎◌};
+ghost use Rattle.std.specs.Prelude.{take, replicate, None, Some, true, false, OnOk, OnErr, IfSome, IsErrOf, IsTrue, ◌↔◌};
+ghost use Rattle.std.specs.Prelude.{◌⊎◌};
 ghost use Rattle.ram.specs.Memory.{frame_of};
 ghost use Rattle.frames.specs.Free.{among};
 ghost use Rattle.frames.specs.Holders.{one_if};
@@ -19,11 +20,11 @@ ghost use Rattle.frames.specs.Owned.{free_count, IsFreeList, Trades};
 ghost use Rattle.std.specs.Option.{option_map};
 ghost use Rattle.pagetable.specs.Owned.{MapsTo, Unmaps};
 ghost use Rattle.pagetable.specs.Tree.{IsLeafMarks, missing};
-ghost use Rattle.vm.specs.Dense.{IsDense, IsTableFor, SameLeaves, SameLeavesUpTo, blank_page, frames_for};
-ghost use Rattle.vm.specs.Dense.{marks_at};
+ghost use Rattle.vm.specs.Dense.{IsDense, IsRun, IsTableFor, SameLeaves, SameLeavesUpTo, frames_for, marks_at};
 ghost use Rattle.unixmodel.specs.Memory.{shared_marks, shared_memory};
-ghost use Rattle.vm.specs.Leaf.{marks_from, rights_from, user_leaf, IsUserLeaf};
-ghost use Rattle.vm.specs.Owned.{AddsPage, Copies, Creates, DropsPages, Grows, HasPages, IsSpace, LacksFrames, Shrinks};
+ghost use Rattle.vm.specs.Leaf.{marks_from, rights_from, user_leaf};
+ghost use Rattle.vm.specs.Owned.{AddsPages, Copies, Creates, DropsPages, Grows, HasPages, IsNewLeaf, IsSpace};
+ghost use Rattle.vm.specs.Owned.{LacksFrames, Shrinks};
 ghost use Rattle.vm.specs.Space.{HasFramesOf, StaysOpen, entries_of};
 ghost use Rattle.vm.specs.Space.{first_pages, held_by, holds, mapping_of, max_size, new_pages, pages_in, pages_of};
 ghost use Rattle.vm.specs.Space.{registers_of};
@@ -200,7 +201,8 @@ impl Space {
         })
     }
 
-    // Maps the next page. Returns its table, if the page after it has the same.
+    // Maps the next page. `low` is its table, if that is known.
+    #[inline(always)]
     fn map_page(
         &self,
         memory: &mut Memory,
@@ -208,48 +210,90 @@ impl Space {
         frame: FrameNo,
         marks: EntryBits,
         low: Option<FrameNo>,
-    ) -> Option<FrameNo>
+    )
         requires held { HasPages memory.old self.now n }
         requires small { n < 32768 }
         requires room { missing memory.old.ram self.now.root.0 n ≤ free_count memory.old }
         requires frame { frame.0 < length memory.old.ram }
         requires marks { IsLeafMarks marks.0 }
-        requires low { n % 512 ≢ 0 → IsTableFor memory.old.ram self.now.root.0 n low }
+        requires low { IsTableFor memory.old.ram self.now.root.0 n low }
         ensures mapped { MapsTo memory.old memory.new self.now.root.0 n frame.0 marks.0 }
-        ensures low { (n + 1) % 512 ≢ 0 → IsTableFor memory.new.ram self.now.root.0 (n + 1) result }
+        ensures low { (n + 1) % 512 ≢ 0 → IsTableFor memory.new.ram self.now.root.0 (n + 1) low }
     {
         let table = PageTable { root: self.root };
-        if n % 512 == 0 {
-            table.map(memory, n, frame, marks).unwrap();
-            return None;
+        match low {
+            Some(low) => table.map_in(memory, low, n, frame, marks),
+            None => table.map(memory, n, frame, marks).unwrap(),
         }
-        let low = table.leaf_table(&memory.ram, n, low);
-        table.map_in(memory, low, n, frame, marks);
-        Some(low)
     }
 
-    // Makes a free frame the next page, all zero. `low` is its table, if that is known; returned is that of the page
-    // after it.
-    fn add_page(
-        &self,
-        memory: &mut Memory,
-        n: u64,
-        marks: EntryBits,
-        low: Option<FrameNo>,
-    ) -> Option<FrameNo>
+    // Makes a free frame the next page, all zero. `low` is its table, if that is known.
+    #[inline(always)]
+    fn add_page(&self, memory: &mut Memory, n: u64, marks: EntryBits, low: Option<FrameNo>)
         requires held { HasPages memory.old self.now n }
         requires small { n < 32768 }
         requires room { frames_for (n + 1) ≤ frames_for n + free_count memory.old }
-        requires marks { IsLeafMarks marks.0 }
-        requires user { IsUserLeaf marks.0 }
-        requires low { n % 512 ≢ 0 → IsTableFor memory.old.ram self.now.root.0 n low }
-        ensures adds { AddsPage memory.old memory.new self.now n marks.0 }
-        ensures low { (n + 1) % 512 ≢ 0 → IsTableFor memory.new.ram self.now.root.0 (n + 1) result }
+        requires leaf { IsNewLeaf marks.0 }
+        requires low { IsTableFor memory.old.ram self.now.root.0 n low }
+        ensures adds { AddsPages memory.old memory.new self.now n (n + 1) marks.0 }
+        ensures low { (n + 1) % 512 ≢ 0 → IsTableFor memory.new.ram self.now.root.0 (n + 1) low }
     {
         memory.ram.frames_are_whole();
         let frame = memory.frames.take(&memory.ram).unwrap();
         memory.ram.zero(frame);
-        self.map_page(memory, n, frame, marks, low)
+        self.map_page(memory, n, frame, marks, low);
+    }
+
+    // Adds the pages from `from` up to `to`, which one table maps that is there.
+    fn add_run(&self, memory: &mut Memory, from: u64, to: u64, marks: EntryBits)
+        requires held { HasPages memory.old self.now from }
+        requires run { IsRun from to }
+        requires small { to ≤ 32768 }
+        requires room { frames_for to ≤ frames_for from + free_count memory.old }
+        requires leaf { IsNewLeaf marks.0 }
+        ensures { AddsPages memory.old memory.new self.now from to marks.0 }
+    {
+        let table = PageTable { root: self.root };
+        let low = table.leaf_table(&memory.ram, from, None);
+        for page in from..to {
+            self.add_page(memory, page, marks, Some(low));
+        }
+    }
+
+    // Adds the next page, if it is the first of its table, or else those up to `to` that its table maps, too.
+    // Returns how many there are then.
+    fn add_some(&self, memory: &mut Memory, from: u64, to: u64, marks: EntryBits) -> u64
+        requires held { HasPages memory.old self.now from }
+        requires order { from < to }
+        requires small { to ≤ 32768 }
+        requires room { frames_for to ≤ frames_for from + free_count memory.old }
+        requires leaf { IsNewLeaf marks.0 }
+        ensures adds { AddsPages memory.old memory.new self.now from result marks.0 }
+        ensures more { from < result }
+        ensures order { result ≤ to }
+    {
+        if from % 512 == 0 {
+            self.add_page(memory, from, marks, None);
+            return from + 1;
+        }
+        let end = to.min(from - from % 512 + 512);
+        self.add_run(memory, from, end, marks);
+        end
+    }
+
+    // Adds the pages from `from` up to `to`.
+    fn add_pages(&self, memory: &mut Memory, from: u64, to: u64, marks: EntryBits)
+        requires held { HasPages memory.old self.now from }
+        requires order { from ≤ to }
+        requires small { to ≤ 32768 }
+        requires room { frames_for to ≤ frames_for from + free_count memory.old }
+        requires leaf { IsNewLeaf marks.0 }
+        ensures { AddsPages memory.old memory.new self.now from to marks.0 }
+    {
+        let mut page = from;
+        while page < to {
+            page = self.add_some(memory, page, to, marks);
+        }
     }
 
     /// Makes a space with the same pages, whose frames each have one holder more then; its trap frame is all 0.
@@ -298,50 +342,75 @@ impl Space {
             return Err(VmFault::Frames);
         }
         let leaf = Marks::new(perm).leaf();
-        let mut low = None;
-        for page in from..to {
-            low = self.add_page(memory, page, leaf, low);
-        }
+        self.add_pages(memory, from, to, leaf);
         self.size = size;
         Ok(())
     }
 
-    // Takes the last page out of the tables. Page 0 is the only one of its tables, which go back without being read; of
-    // others only the first of its table is. `low` is its table, if that is known; returned are its frame and the table
-    // of the page before it.
-    fn unmap_page(
-        &self,
-        memory: &mut Memory,
-        n: u64,
-        low: Option<FrameNo>,
-    ) -> (FrameNo, Option<FrameNo>)
+    // Takes the last page out of the tables, and returns its frame. `low` is its table, unless it is the first of it.
+    // Page 0 is the only one of its tables, which go back without being read.
+    #[inline(always)]
+    fn unmap_page(&self, memory: &mut Memory, n: u64, low: Option<FrameNo>) -> FrameNo
         requires held { HasPages memory.old self.now (n + 1) }
         requires low { IsTableFor memory.old.ram self.now.root.0 n low }
-        ensures unmaps { Unmaps memory.old memory.new self.now.root.0 n result.0.0 }
-        ensures low { IsTableFor memory.new.ram self.now.root.0 (n - 1) result.1 }
+        requires inner { IfSome low (λ _. n % 512 ≢ 0) }
+        ensures unmaps { Unmaps memory.old memory.new self.now.root.0 n result.0 }
+        ensures low { IsTableFor memory.new.ram self.now.root.0 (n - 1) low }
     {
         let table = PageTable { root: self.root };
+        if let Some(low) = low {
+            return table.unmap_in(memory, low, n);
+        }
         if n == 0 {
-            return (table.unmap_last(memory, n), None);
+            return table.unmap_last(memory, n);
         }
-        if n % 512 == 0 {
-            return (table.unmap(memory, n), None);
-        }
-        let low = table.leaf_table(&memory.ram, n, low);
-        (table.unmap_in(memory, low, n), Some(low))
+        table.unmap(memory, n)
     }
 
-    // Gives back the last page. `low` is its table, if that is known; returned is that of the page before it.
-    fn drop_page(&self, memory: &mut Memory, n: u64, low: Option<FrameNo>) -> Option<FrameNo>
+    // Gives back the last page. `low` is its table, unless it is the first of it.
+    #[inline(always)]
+    fn drop_page(&self, memory: &mut Memory, n: u64, low: Option<FrameNo>)
         requires held { HasPages memory.old self.now (n + 1) }
         requires low { IsTableFor memory.old.ram self.now.root.0 n low }
+        requires inner { IfSome low (λ _. n % 512 ≢ 0) }
         ensures drops { DropsPages memory.old memory.new self.now (n + 1) n }
-        ensures low { IsTableFor memory.new.ram self.now.root.0 (n - 1) result }
+        ensures low { IsTableFor memory.new.ram self.now.root.0 (n - 1) low }
     {
         memory.ram.frames_are_whole();
-        let (frame, low) = self.unmap_page(memory, n, low);
+        let frame = self.unmap_page(memory, n, low);
         memory.frames.give(&mut memory.ram, frame);
-        low
+    }
+
+    // Gives back the pages from `to` on, which one table maps that stays.
+    fn drop_run(&self, memory: &mut Memory, from: u64, to: u64)
+        requires held { HasPages memory.old self.now from }
+        requires run { IsRun to from }
+        ensures { DropsPages memory.old memory.new self.now from to }
+    {
+        let table = PageTable { root: self.root };
+        let low = table.leaf_table(&memory.ram, to, None);
+        for i in 0..from - to {
+            self.drop_page(memory, from - 1 - i, Some(low));
+        }
+    }
+
+    // Gives back the last page, if it is the first of its table, or else those from `to` on that its table maps, too,
+    // except its first. Returns how many are left.
+    fn drop_some(&self, memory: &mut Memory, from: u64, to: u64) -> u64
+        requires held { HasPages memory.old self.now from }
+        requires order { to < from }
+        ensures drops { DropsPages memory.old memory.new self.now from result }
+        ensures less { result < from }
+        ensures order { to ≤ result }
+    {
+        let last = from - 1;
+        if last % 512 == 0 {
+            self.drop_page(memory, last, None);
+            return last;
+        }
+        let left = to.max(last - last % 512 + 1);
+        self.drop_run(memory, from, left);
+        left
     }
 
     // Gives back the pages from `to` on.
@@ -350,9 +419,9 @@ impl Space {
         requires order { to ≤ from }
         ensures { DropsPages memory.old memory.new self.now from to }
     {
-        let mut low = None;
-        for i in 0..from - to {
-            low = self.drop_page(memory, from - 1 - i, low);
+        let mut left = from;
+        while left > to {
+            left = self.drop_some(memory, left, to);
         }
     }
 

@@ -1,7 +1,8 @@
-use Rattle.vm.proofs.Common.{arith, ap, ◌∙◌, replicate, get_or-set_same, frame_of, free-first}
+use Rattle.vm.proofs.Common.{arith, ap, ◌+◌, ◌-◌, ◌∙◌, ◌≡◌, replicate, get_or-set_same, frame_of, free-first}
 use Rattle.vm.proofs.DenseLemmas.{marks_at-is}
 use Rattle.vm.proofs.BesideLemmas.{IsTaken, IsTaken-set}
 use Rattle.vm.proofs.Added.{IsBefore, taken-before, taken-fits, taken-grown, taken-nodes}
+use Rattle.vm.proofs.PageLemmas.{open-more}
 use Rattle.vm.proofs.Tables.{for-same}
 use Rattle.vm.proofs.Space.add_page.Goals as goal
 use Rattle.vm.proofs.Space.add_page.Goals.{After-zero}
@@ -37,8 +38,8 @@ map_page-requires-clause-frame c =
     )
 
 pub map_page-requires-clause-low : goal.map_page-requires-clause-low
-map_page-requires-clause-low c = λ inner. for-same _ _ _ c.args.n c.args.low
-    (taken-nodes c.requires.held (taken (goal.at.map_page-requires-clause-low c).After-zero)) (c.requires.low inner)
+map_page-requires-clause-low c = for-same _ _ _ c.args.n c.args.low
+    (taken-nodes c.requires.held (taken (goal.at.map_page-requires-clause-low c).After-zero)) c.requires.low
 
 pub returns : goal.returns
 returns c =
@@ -50,7 +51,7 @@ returns c =
     (ap (λ m. frame_of m c.unwrap-frame.result.0) c.zero.ensures
     ∙ get_or-set_same c.args.memory.now.ram c.unwrap-frame.result.0 (replicate 4096 0) _ inside)
     (record {
-      leaf = c.requires.user;
+      leaf = c.requires.leaf.user;
       inserts = mapped.maps;
       adds = mapped.adds;
       tidy = mapped.tidy (before z).space.dense.tidy;
@@ -58,13 +59,16 @@ returns c =
       keeps = mapped.changes.keeps;
       extra = mapped.changes.extra;
     }) in
+    let one : c.args.n + 1 - c.args.n ≡ 1 = omega arith in
     record {
       low = c.map_page.ensures.low;
       adds = record {
         held = g.space;
-        pages = g.pages;
+        pages = rw one g.pages;
         mapping = g.mapping;
-        marks = marks_at-is c.map_page.new.memory.ram _ _ mapped.maps.changed;
+        opens = λ first h. open-more c.args.memory.now.ram c.map_page.new.memory.ram c.args.self.now.root.0 c.args.n
+            first c.args.marks.0 (λ read. g.mapping read c.args.n (omega arith))
+            (marks_at-is c.map_page.new.memory.ram _ _ mapped.maps.changed) c.requires.leaf.wide h;
         registers = g.trap;
         trades = g.trades;
         room = g.room;

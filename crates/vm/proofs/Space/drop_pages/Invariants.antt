@@ -1,10 +1,13 @@
-use Rattle.vm.proofs.Common.{◌-◌}
-use Rattle.vm.specs.Dense.{IsTableFor}
+use Rattle.vm.proofs.Common.{◌-◌, ◌≤◌}
 use Rattle.vm.specs.Owned.{DropsPages}
 use Rattle.vm.proofs.Space.drop_pages.Given as goal
 
-abbrev pub invariant-loop-i : goal.invariant-loop-i
-invariant-loop-i l = record {
-  drops : DropsPages l.initial.memory l.memory l.self l.from (l.from - l.i);
-  low : IsTableFor l.memory.ram l.self.root.0 (l.from - 1 - l.i) l.low;
+abbrev pub invariant-loop-left : goal.invariant-loop-left
+invariant-loop-left l = record {
+  drops : DropsPages l.initial.memory l.memory l.self l.from l.left;
+  from : l.left ≤ l.from;
+  to : l.to ≤ l.left;
 }
+
+abbrev pub decreases-loop-left : goal.decreases-loop-left
+decreases-loop-left l = l.left - l.to

@@ -1,7 +1,6 @@
-use Rattle.vm.proofs.Common.{ℕ, ◌-◌, ◌∙◌, ◌≢◌, Option, Some, None, ◌≡◌, arith, low_node}
+use Rattle.vm.proofs.Common.{ℕ, ◌-◌, ◌≢◌, Option, Some, None, ◌≡◌, arith}
 use Rattle.vm.proofs.Removed.{last-zero}
-use Rattle.vm.proofs.Tables.{low-before, table-there}
-use Rattle.pagetable.proofs.TreeLemmas.{low_is_node}
+use Rattle.vm.proofs.Tables.{for-before}
 use Rattle.vm.proofs.BesideLemmas.{OwnsFrames-paged}
 use Rattle.vm.proofs.Space.unmap_page.Goals as goal
 
@@ -23,10 +22,6 @@ unmap_last-requires-clause-mapped c = some-lookup (ℕ × ℕ) _ _ (c.requires.h
 pub unmap_last-requires-clause-last : goal.unmap_last-requires-clause-last
 unmap_last-requires-clause-last c = last-zero c.if-n-eq0.true c.requires.held.dense
 
-pub leaf_table-low-requires-clause-there : goal.leaf_table-low-requires-clause-there
-leaf_table-low-requires-clause-there c = table-there _ _ _
-    (some-lookup (ℕ × ℕ) _ _ (c.requires.held.dense.pages c.args.n (omega arith)))
-
 pub unmap_in-requires-clause-paged : goal.unmap_in-requires-clause-paged
 unmap_in-requires-clause-paged c = OwnsFrames-paged c.requires.held
 
@@ -37,8 +32,6 @@ pub unmap_in-requires-clause-before : goal.unmap_in-requires-clause-before
 unmap_in-requires-clause-before c =
     some-lookup (ℕ × ℕ) _ _ (c.requires.held.dense.pages (c.args.n - 1) (omega arith))
 
-pub returns-clause-low : goal.returns-clause-low
-returns-clause-low c =
-    rw (low-before c.args.n c.if-n-eq0-2.false)
-    (c.unmap_in.ensures.rewrites.tables (low_node c.args.n) (low_is_node c.args.n)
-    ∙ c.leaf_table-low.ensures)
+pub returns-in-Some-clause-low : goal.returns-in-Some-clause-low
+returns-in-Some-clause-low c =
+    for-before _ _ _ c.args.n c.args.low c.unmap_in.ensures.rewrites.tables c.requires.inner c.requires.low
