@@ -3,12 +3,10 @@
 //! From the RISC-V unprivileged manual, its chapters on RV32I, RV64I and the extension M. An instruction that raises a
 //! trap changes nothing; the address that comes with it is the target of a jump, the accessed address of a load or
 //! store, and else the pc.
-ghost use Rattle.std.specs.Prelude.{◌≡◌, Some, None, List, length, IfSome, IfNone};
-ghost use Rattle.unixmodel.specs.Cycle.{cycle};
+ghost use Rattle.std.specs.Prelude.{◌≡◌, Some, None, length, IfSome, IfNone};
 ghost use Rattle.unixmodel.specs.Translation.{HoldsInside, IsAnswer, IsKept};
-ghost use Rattle.sv39.specs.Mapping.{Mapped, Shows, memory_of};
 ghost use Rattle.hart.specs.Answered.{IsFetched, IsStep, cycle_by};
-ghost use Rattle.hart.specs.Follows.{Follows};
+ghost use Rattle.hart.specs.Follows.{Steps};
 
 use crate::access::{locate, place};
 use crate::decoding::flatten;
@@ -70,14 +68,7 @@ impl Hart {
     #[inline(always)]
     pub fn step<T: Translate>(&mut self, ram: &mut Ram, trans: &mut T) -> Option<Trap>
         requires { HoldsInside (T.held trans.old) ram.old }
-        ensures answered { IsStep (T.held trans.old) (cycle_by self.old.registers self.old.pc) result self.old self.new
-            ram.old ram.new }
-        ensures trap { IfSome result (λ t. (self.new ≡ self.old) × (ram.new ≡ ram.old)) }
-        ensures step { (mapping : List Mapped) → Shows (T.held trans.old) ram.old self.old.root.0 mapping →
-            Follows (cycle self.old.registers self.old.pc (memory_of ram.old mapping)) mapping result self.old self.new
-            ram.old ram.new }
-        ensures kept { IsKept (T.held trans.old) (T.held trans.new) ram.old self.old.root.0 }
-        ensures count { length ram.new ≡ length ram.old }
+        ensures { Steps (T.held trans.old) (T.held trans.new) result self.old self.new ram.old ram.new }
     {
         self.cycle(ram, trans)
     }
