@@ -1,6 +1,6 @@
 //! The table of processes.
 ghost use Rattle.std.specs.Prelude.{◌≡◌, ◌+◌, ◌<◌, ◌≤◌, ◌%◌, List, ℕ, Some, None, true, false, length, map, option_map};
-ghost use Rattle.std.specs.Prelude.{position, is_some, IfSome, IfNone, IfOk, OnErr};
+ghost use Rattle.std.specs.Prelude.{position, is_some, IfSome, IfOk, OnErr};
 ghost use Rattle.std.specs.Borrow.{sem};
 ghost use Rattle.std.specs.Option.{option_copied, option_copied_mut};
 ghost use Rattle.unixmodel.specs.Files.{free_slot, free_slots, put, slot};
