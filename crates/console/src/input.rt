@@ -57,7 +57,9 @@ impl Model for Console {
     ghost invariant = { λ c. (c.from < 128) × (c.committed + c.edited ≤ 128) };
 }
 
-// Takes `count` bytes off the screen.
+// Takes `count` bytes off the screen. It is kept out of line, so that a key that is added needs few registers.
+#[cold]
+#[inline(never)]
 fn rub_out<W: Out>(count: usize, out: &mut W) -> Result<(), OutFault>
     ensures ok { OnOk result (Appends (W.contents out.old) (W.contents out.new) (rub_outs count)) }
     ensures err { OnErr result (AppendsBeginning (W.contents out.old) (W.contents out.new) (rub_outs count)) }

@@ -407,7 +407,9 @@ impl<D: BlockDev, T: Translate> Kernel<D, T> {
     {
         match self.console.key(byte, out) {
             Ok(()) => {
-                wakeup(&mut self.table, Channel::Bytes); // who reads the console
+                if self.console.can_take() {
+                    wakeup(&mut self.table, Channel::Bytes); // who reads the console
+                }
                 Ok(())
             }
             Err(fault) => Err(fault),
