@@ -2,6 +2,7 @@
 
 ghost use Rattle.std.specs.Prelude.{◌≡◌, IsSome, ℕ, ◌+◌, ◌-◌, ◌*◌, ◌/◌, ◌%◌, ◌<◌, ◌≤◌, ◌==◌, List, false, get_or};
 ghost use Rattle.std.specs.Prelude.{length, nat_lt, ◌&&◌};
+ghost use Rattle.std.specs.Bool.{OnFalse};
 ghost use Rattle.tree.specs.Entering.{room_behind, room_told};
 ghost use Rattle.tree.specs.Names.{is_bare};
 ghost use Rattle.tree.specs.Scanning.{Begins, BeginsWith, Scans, is_sought};
@@ -69,16 +70,21 @@ fn beginning_of(name: &[u8]) -> Beginning
     }
 }
 
-// Whether a slot has this name. Most others begin otherwise.
-fn has_name(place: &[u8], name: &[u8], begins: Beginning) -> bool
-    requires long { length place.now ≡ 16 }
-    requires begins { Begins name.now begins }
+// Whether the name in a slot begins so.
+#[inline(always)]
+fn begins_so(place: &[u8], begins: Beginning) -> bool
+    requires { length place.now ≡ 16 }
+    ensures { result ≡ (get_or place.now 2 0 == begins.first) && (get_or place.now 3 0 == begins.second) }
+{
+    place[2] == begins.first && place[3] == begins.second
+}
+
+// Whether a slot has this name.
+fn has_name(place: &[u8], name: &[u8]) -> bool
+    requires { length place.now ≡ 16 }
     ensures { result ≡ has_name name.now (place_of_bytes place.now) }
 {
-    if place[2] != begins.first || place[3] != begins.second || is_free(place) {
-        return false;
-    }
-    name_in(place) == name
+    !is_free(place) && name_in(place) == name
 }
 
 // What is sought in a directory.
@@ -105,17 +111,41 @@ fn begins_with(sought: &Sought) -> Beginning
     }
 }
 
+// Whether a slot may be what is sought, by the two bytes that its name begins with. Most slots are not.
+#[inline(always)]
+fn may_match(place: &[u8], sought: &Sought, begins: Beginning) -> bool
+    requires long { length place.now ≡ 16 }
+    requires begins { BeginsWith sought.now begins }
+    ensures { OnFalse result (is_sought sought.now (place_of_bytes place.now) ≡ false) }
+{
+    match sought {
+        Sought::Name(_) => begins_so(place, begins),
+        Sought::NameOrFree(_) => place[2] == 0 || begins_so(place, begins),
+        Sought::Taken => true,
+    }
+}
+
+// Whether a slot is what is sought, by all its bytes. It is out of line, so that the loop past all others is short.
+#[inline(never)]
+fn matches(place: &[u8], sought: &Sought) -> bool
+    requires { length place.now ≡ 16 }
+    ensures { result ≡ is_sought sought.now (place_of_bytes place.now) }
+{
+    match sought {
+        Sought::Name(name) => has_name(place, name),
+        Sought::NameOrFree(name) => is_free(place) || has_name(place, name),
+        Sought::Taken => !is_free(place),
+    }
+}
+
 // Whether a slot is what is sought.
+#[inline(always)]
 fn is_sought(place: &[u8], sought: &Sought, begins: Beginning) -> bool
     requires long { length place.now ≡ 16 }
     requires begins { BeginsWith sought.now begins }
     ensures { result ≡ is_sought sought.now (place_of_bytes place.now) }
 {
-    match sought {
-        Sought::Name(name) => has_name(place, name, begins),
-        Sought::NameOrFree(name) => is_free(place) || has_name(place, name, begins),
-        Sought::Taken => !is_free(place),
-    }
+    may_match(place, sought, begins) && matches(place, sought)
 }
 
 // The first of these slots that is what is sought.
