@@ -7,7 +7,8 @@ use Rattle.tree.proofs.Common.{number_at, ◌*◌, ◌⊎◌, ◌++◌, inl, inr
 use Rattle.tree.proofs.Common.{length-append, length-set, position-Some, same_Some, taken_for, entered, growth, placed}
 use Rattle.tree.proofs.Common.{room_at, room_behind, room_in, blocks_of, Files, Spot, change_node, enter, free_slot}
 use Rattle.tree.proofs.Common.{live_places, most_places, put, with_entry, with_entry_at, with_places, Directory, subst}
-use Rattle.tree.proofs.Common.{All, IsFolder, FitsPlaces, FileTree, IsWhole, PlaceFits, Node, Entry}
+use Rattle.tree.proofs.Common.{All, IsFolder, FitsPlaces, FileTree, IsWhole, PlaceFits, Node, Entry, InodeStat, Tells}
+use Rattle.tree.proofs.Common.{◌/◌}
 use Rattle.tree.proofs.Storing.{position-at, position-none, blocks_of-set, change-is, slot-within, taken_by}
 use Rattle.tree.proofs.Stored.{taken-grows}
 use Rattle.imagerules.proofs.Spelling.{place-free, place-taken}
@@ -207,3 +208,11 @@ folder-fits {d = d} whole f = subst FitsPlaces f.here (whole.places d)
 
 pub folder-node : {files : Files} {d : ℕ} → IsFolder files d → (x : Node) × (slot files d ≡ Some x)
 folder-node f = (Directory f.links f.places, f.here)
+
+-- how many there are, by its attributes
+pub size-told : {files : Files} {d : ℕ} {s : InodeStat} (f : IsFolder files d)
+    → ((node : Node) → slot files d ≡ Some node → Tells s node) → s.size / 16 ≡ length f.places
+size-told f told =
+    let is = told (Directory f.links f.places) f.here in
+    let size = is.2 in
+    omega arith

@@ -165,6 +165,13 @@ fn first(places: &[u8], sought: &Sought) -> Option<Found>
     None
 }
 
+// How many slots a directory with these attributes has.
+fn places_of(directory: &InodeStat) -> usize
+    ensures { result ≡ directory.now.size / 16 }
+{
+    directory.size as usize / PLACE_SIZE
+}
+
 // Whether a node is a directory with links.
 fn is_live(node: &InodeStat) -> bool
     ensures { result ≡ (node.now.kind == 1) && nat_lt 0 node.now.links }
@@ -192,7 +199,7 @@ impl<D: BlockDev> Tree<D> {
             (λ count. (f : IsFolder self.old.files directory) → count ≡ length f.places) }
     {
         let node = self.node(directory)?;
-        Ok(node.size as usize / PLACE_SIZE)
+        Ok(places_of(&node))
     }
 
     // Reads slots of a directory from slot `k` on, as many as `out` has room for.
@@ -238,6 +245,22 @@ impl<D: BlockDev> Tree<D> {
         Ok(None)
     }
 
+    // The slot of a name in a directory with `count` slots.
+    fn find_among(
+        &mut self,
+        directory: usize,
+        count: usize,
+        name: &[u8],
+    ) -> Result<Option<Found>, DeviceFault>
+        requires up { self.old.failed ≡ false }
+        requires directory { IsFolder self.old.files directory }
+        requires count { (f : IsFolder self.old.files directory) → count ≡ length f.places }
+        ensures { Reads self.old self.new result (FindsName self.old.files directory name.now) }
+    {
+        self.is_whole();
+        self.scan(directory, count, 0, &Sought::Name(name))
+    }
+
     // The slot of a name in a directory.
     pub(crate) fn find_name(
         &mut self,
@@ -248,9 +271,8 @@ impl<D: BlockDev> Tree<D> {
         requires directory { IsFolder self.old.files directory }
         ensures { Reads self.old self.new result (FindsName self.old.files directory name.now) }
     {
-        self.is_whole();
         let count = self.count_places(directory)?;
-        self.scan(directory, count, 0, &Sought::Name(name))
+        self.find_among(directory, count, name)
     }
 
     // The number that a name has in a directory with links. In any other node no name is found.
@@ -267,7 +289,7 @@ impl<D: BlockDev> Tree<D> {
         if !is_live(&node) {
             return Ok(None);
         }
-        let Some(found) = self.find_name(directory, name)? else {
+        let Some(found) = self.find_among(directory, places_of(&node), name)? else {
             return Ok(None);
         };
         Ok(Some(found.number))

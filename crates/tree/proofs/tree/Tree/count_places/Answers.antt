@@ -1,7 +1,7 @@
-use Rattle.tree.proofs.Common.{arith, Directory}
+use Rattle.tree.proofs.Common.{◌∙◌}
 use Rattle.tree.proofs.Following.{end-lost, now-begin, now-read}
 use Rattle.tree.proofs.Ending.{end-read}
-use Rattle.tree.proofs.Places.{folder-node}
+use Rattle.tree.proofs.Places.{folder-node, size-told}
 use Rattle.tree.proofs.tree.Tree.count_places.Goals as goal
 
 pub node-requires : goal.node-requires
@@ -12,5 +12,4 @@ returns-in_err-node g c = end-lost now-begin c.node.ensures c.in_err-node.was c.
 
 pub returns : goal.returns
 returns g c = end-read c.requires.up (now-read now-begin c.node.ensures c.in_ok-node.was)
-    (λ f. let told = c.in_ok-node.ensures.serves.told.1 (Directory f.links f.places) f.here in let size = told.2
-    in omega arith)
+    (λ f. c.places_of.ensures ∙ size-told f c.in_ok-node.ensures.serves.told.1)

@@ -1,14 +1,12 @@
 use Rattle.tree.proofs.Ending.{end-last}
 use Rattle.tree.proofs.Following.{end-lost, folder-now, folder-was, now-begin, now-read, now-up}
-use Rattle.tree.proofs.Places.{folder-fits}
-use Rattle.tree.proofs.Scanning.{name-told}
 use Rattle.tree.proofs.tree.Tree.find_name.Goals as goal
 
 pub returns-in_err-count : goal.returns-in_err-count
 returns-in_err-count g c = end-lost now-begin c.count_places.ensures c.in_err-count.was c.from_residual.ensures.1
 
-pub scan-requires : goal.scan-requires
-scan-requires g c =
+pub find_among-requires : goal.find_among-requires
+find_among-requires g c =
     let now = now-read now-begin c.count_places.ensures c.in_ok-count.was in
     record {
       up = now-up now c.requires.up;
@@ -19,5 +17,4 @@ scan-requires g c =
 pub returns : goal.returns
 returns g c =
     let now = now-read now-begin c.count_places.ensures c.in_ok-count.was in
-    end-last now _ c.scan.ensures
-    (λ found told f. name-told f.places (folder-fits c.is_whole.ensures f) _ found (told (folder-now now f)))
+    end-last now _ c.find_among.ensures (λ found told f. told (folder-now now f))

@@ -1,7 +1,8 @@
 use Rattle.tree.proofs.Common.{ap, sym, ◌∙◌, option_map, Found}
-use Rattle.tree.proofs.Following.{end-lost, folder-now, now-begin, now-read, now-up}
+use Rattle.tree.proofs.Following.{end-lost, folder-now, folder-was, now-begin, now-read, now-up}
 use Rattle.tree.proofs.Ending.{end-read}
 use Rattle.tree.proofs.Unlinked.{dead-told, live-folder, live-told, lookup-told}
+use Rattle.tree.proofs.Places.{size-told}
 use Rattle.tree.proofs.Storing.{node-of}
 use Rattle.tree.proofs.tree.Tree.lookup.Goals as goal
 
@@ -16,16 +17,20 @@ returns-then-not-is_live g c =
     end-read c.requires.up (now-read now-begin c.node.ensures c.in_ok-node.was)
     (dead-told _ _ c.requires.node c.in_ok-node.ensures.serves.told.1 (sym c.is_live.ensures ∙ c.if-not-is_live.true) _)
 
-pub find_name-requires : goal.find_name-requires
-find_name-requires g c =
+pub find_among-requires : goal.find_among-requires
+find_among-requires g c =
     let now = now-read now-begin c.node.ensures c.in_ok-node.was in
     let live = live-told _ _ c.requires.node c.in_ok-node.ensures.serves.told.1
     (sym c.is_live.ensures ∙ c.if-not-is_live.false) in
-    record { up = now-up now c.requires.up; directory = folder-now now (live-folder live) }
+    record {
+      up = now-up now c.requires.up;
+      directory = folder-now now (live-folder live);
+      count = λ f. c.places_of.ensures ∙ size-told (folder-was now f) c.in_ok-node.ensures.serves.told.1;
+    }
 
 pub returns-in_err-found : goal.returns-in_err-found
 returns-in_err-found g c =
-    end-lost (now-read now-begin c.node.ensures c.in_ok-node.was) c.find_name.ensures c.in_err-found.was
+    end-lost (now-read now-begin c.node.ensures c.in_ok-node.was) c.find_among.ensures c.in_err-found.was
     c.from_residual-in_err-found.ensures.1
 
 pub returns-in_default : goal.returns-in_default
@@ -34,7 +39,7 @@ returns-in_default g c =
     let live = live-told _ _ c.requires.node c.in_ok-node.ensures.serves.told.1
     (sym c.is_live.ensures ∙ c.if-not-is_live.false) in
     let told = lookup-told live _ _ (c.in_ok-found.ensures.serves.told.1 (folder-now now (live-folder live))) in
-    end-read c.requires.up (now-read now c.find_name.ensures c.in_ok-found.was)
+    end-read c.requires.up (now-read now c.find_among.ensures c.in_ok-found.was)
     (ap (option_map (λ (f : Found). f.number)) (sym c.in_default.is) ∙ told)
 
 pub returns : goal.returns
@@ -43,5 +48,5 @@ returns g c =
     let live = live-told _ _ c.requires.node c.in_ok-node.ensures.serves.told.1
     (sym c.is_live.ensures ∙ c.if-not-is_live.false) in
     let told = lookup-told live _ _ (c.in_ok-found.ensures.serves.told.1 (folder-now now (live-folder live))) in
-    end-read c.requires.up (now-read now c.find_name.ensures c.in_ok-found.was)
+    end-read c.requires.up (now-read now c.find_among.ensures c.in_ok-found.was)
     (ap (option_map (λ (f : Found). f.number)) (sym c.in-Some.is) ∙ told)
