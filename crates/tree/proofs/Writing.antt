@@ -16,7 +16,6 @@ use Rattle.inode.specs.declared.InodeFault.{InodeFault}
 use Rattle.std.proofs.lemmas.List.Concat.{flat_map-append}
 use Rattle.tree.proofs.Places.{blocks_of-entered, entered-is, placed-behind, placed-inside, room-cases}
 use Rattle.tree.proofs.Ending.{Becomes}
-use Rattle.tree.proofs.Following.{failed}
 use Rattle.std.proofs.Math.Seq.{drop-append-add, drop-append_seam, take-append-add}
 use Rattle.tree.proofs.Storing.{blocks_of-set, change-is, slot-within, taken_by, kept-stores, held-again, held-raw}
 use Rattle.tree.proofs.Storing.{inside-holds, inside-room, inside-after, done-inside, lost-inside, with_volume}
