@@ -4,6 +4,7 @@ pub mod Holding
 pub mod Releasing
 pub mod Named
 pub mod Leaving
+pub mod Current
 pub mod Runs
 pub mod Reaping
 pub mod Changes

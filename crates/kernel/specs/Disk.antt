@@ -1,7 +1,7 @@
 -- What the kernel's steps on the files of its disk leave.
 use Rattle.std.specs.Prelude.{Err, None, Ok, Option, Result, Some, false, true, ℕ, ◌≡◌, ◌≤◌}
 use Rattle.blockdev.specs.declared.DeviceFault.{DeviceFault}
-use Rattle.kernel.specs.Kernel.{Kernel, counting}
+use Rattle.kernel.specs.Kernel.{Kernel, counting, current}
 use Rattle.proc.specs.declared.process.Process.{Process}
 use Rattle.tree.specs.Tree.{FileTree}
 use Rattle.unixmodel.specs.Failures.{Rises}
@@ -34,6 +34,10 @@ directory_in (Some p) = p.directory
 
 abbrev pub directory_at : Kernel → ℕ → ℕ
 directory_at k i = directory_in (slot k.table.places i)
+
+-- the directory that the running process works in
+abbrev pub current_directory : Kernel → ℕ
+current_directory k = directory_at k (current k)
 
 -- ---- steps that read the disk and change nothing else
 

@@ -1,6 +1,6 @@
 -- A kernel of many processes, as plain values, and the state of the abstract Unix that it represents.
 use Rattle.std.specs.Prelude.{Bool, List, None, Ok, Option, Some, [], if◌then◌else◌, not, slice_index, slice_set, ℕ, ℤ}
-use Rattle.std.specs.Prelude.{◌%◌, ◌+◌, ◌++◌, ◌==◌, ◌^◌, ◌∷◌, ◌≡◌}
+use Rattle.std.specs.Prelude.{unwrap_or, ◌%◌, ◌+◌, ◌++◌, ◌==◌, ◌^◌, ◌∷◌, ◌≡◌}
 use Rattle.kernel.specs.Descriptors.{all_closed, descriptors_in, standing}
 use Rattle.kernel.specs.Holding.{all_dropped, gone_nodes}
 use Rattle.files.specs.Places.{Counted, opens_of}
@@ -8,7 +8,7 @@ use Rattle.proc.specs.declared.process.Process.{Process}
 use Rattle.proc.specs.Places.{Places, changed, changed_at, exited, with_mark, with_mode}
 use Rattle.kernel.specs.Whole.{with_table}
 use Rattle.spaces.specs.Spaces as spaces
-use Rattle.spaces.specs.Spaces.{SpaceView, Spaces, cycle_at}
+use Rattle.spaces.specs.Spaces.{SpaceView, Spaces, cycle_at, view_at}
 use Rattle.unixmodel.specs.declared.process.Mode.{Mode}
 use Rattle.unixmodel.specs.declared.process.Mode.TheVariants.{Ready, Running, Waiting}
 use Rattle.unixmodel.specs.declared.process.Pending.{Pending}
@@ -127,9 +127,25 @@ state_of k = state_with (loaded k) k.spaces.places (rest_of k)
 
 -- ---- what calls do to the running process, in slot i
 
+-- the current slot: that of the running process; 64, which is no slot's number, where none runs
+abbrev pub current : Kernel → ℕ
+current k = unwrap_or k.spaces.active 64
+
+-- a process runs
+abbrev pub HasCurrent : Kernel → Type 0
+HasCurrent k = k.spaces.active ≡ Some (current k)
+
 -- the descriptors of process i
 abbrev pub descriptors_at : Kernel → ℕ → List (Option ℕ)
 descriptors_at k i = descriptors_in (slot k.table.places i)
+
+-- those of the running process
+abbrev pub current_descriptors : Kernel → List (Option ℕ)
+current_descriptors k = descriptors_at k (current k)
+
+-- the space of the running process
+abbrev pub current_space : Kernel → SpaceView
+current_space k = view_at k.spaces (current k)
 
 -- argument n of a call
 abbrev pub argument : Kernel → ℕ → ℕ

@@ -4,9 +4,9 @@ ghost use Rattle.std.specs.Prelude.{is_some, IfSome, IfNone, slice_index, unwrap
 ghost use Rattle.std.specs.Prelude.{option_map, OnOk, OnErr, Ok, Err};
 ghost use Rattle.std.specs.Io.KnownBytes.{Appends};
 ghost use Rattle.std.specs.Option.{option_copied};
-ghost use Rattle.kernel.specs.Kernel.{answered, argument, begun, blocked, descriptors_at, entered, idle, left_as};
-ghost use Rattle.kernel.specs.Kernel.{loaded, marked, on_hart, picked, started, state_of, ticked, typed, waking};
-ghost use Rattle.kernel.specs.Kernel.{Executes, HasEnded};
+ghost use Rattle.kernel.specs.Kernel.{Executes, HasCurrent, HasEnded, answered, argument, begun, blocked, current};
+ghost use Rattle.kernel.specs.Kernel.{current_descriptors, current_space, entered, idle, left_as, loaded, marked};
+ghost use Rattle.kernel.specs.Kernel.{on_hart, picked, started, state_of, ticked, typed, waking};
 ghost use Rattle.kernel.specs.Sound.{CanRun, IsAwaiting, IsKernel, IsPending, can_answer};
 ghost use Rattle.kernel.specs.Sound.{CanEnd};
 ghost use Rattle.kernel.specs.Ready.{awaited, seen};
@@ -18,7 +18,7 @@ ghost use Rattle.console.specs.Output.{AppendsBeginning};
 ghost use Rattle.files.specs.Meant.{end_of, target_of};
 ghost use Rattle.files.specs.Places.{has_end, opens_of};
 ghost use Rattle.proc.specs.Places.{has_pid, place_where};
-ghost use Rattle.spaces.specs.Spaces.{view_at, cycle_at};
+ghost use Rattle.spaces.specs.Spaces.{cycle_at};
 ghost use Rattle.tree.specs.Tree.{Serves};
 ghost use Rattle.unixmodel.specs.Console.{key};
 ghost use Rattle.unixmodel.specs.Failures.{Rises};
@@ -53,6 +53,7 @@ use std::marker::Model;
 use sv39::Translate;
 use tree::Tree;
 use unixmodel::call::Call;
+use unixmodel::limits::PROCESSES;
 use unixmodel::process::{Mode, Pending};
 use unixmodel::trap::Trap;
 
@@ -93,6 +94,16 @@ fn halted_after(pid: u32, status: i32, halted: Option<i32>) -> Option<i32>
     ensures { result ≡ (if pid == 1 then Some status else halted) }
 {
     if pid == 1 { Some(status) } else { halted }
+}
+
+// The pid of a process; 0 where there is none.
+fn pid_of(process: Option<&Process>) -> u32
+    ensures { IfSome (option_copied process.entry) (λ p. result ≡ p.pid) }
+{
+    match process {
+        Some(process) => process.pid,
+        None => 0,
+    }
 }
 
 // The process in slot `at` ends: its descriptors are closed, whoever may wait for that is woken, and none runs. Returns
@@ -155,6 +166,17 @@ impl<D: BlockDev, T: Translate> Kernel<D, T> {
         self.spaces.active()
     }
 
+    /// The current slot: that of the running process. 64, which is no slot's number, where none runs.
+    #[inline]
+    pub fn current(&self) -> usize
+        ensures { result ≡ current self.now }
+    {
+        match self.spaces.active() {
+            Some(at) => at,
+            None => PROCESSES,
+        }
+    }
+
     /// A law: what every kernel keeps. It runs no code.
     #[inline]
     pub fn is_sound(&self)
@@ -204,22 +226,19 @@ impl<D: BlockDev, T: Translate> Kernel<D, T> {
         self.spaces.registers()[10 + n]
     }
 
-    /// The pid of the process in a slot.
-    pub fn pid(&self, at: usize) -> u32
-        ensures { IfSome (slot self.now.table.places at) (λ p. result ≡ p.pid) }
+    /// The pid of the running process.
+    pub fn pid(&self) -> u32
+        ensures { IfSome (slot self.now.table.places (current self.now)) (λ p. result ≡ p.pid) }
     {
-        match self.table.process(at) {
-            Some(process) => process.pid,
-            None => 0,
-        }
+        pid_of(self.table.process(self.current()))
     }
 
-    /// The open file that a descriptor of the process in a slot names.
-    pub fn open_id(&self, at: usize, descriptor: u32) -> Option<u8>
-        ensures named { result ≡ slot (descriptors_at self.now at) descriptor }
+    /// The open file that a descriptor of the running process names.
+    pub fn open_id(&self, descriptor: u32) -> Option<u8>
+        ensures named { result ≡ slot (current_descriptors self.now) descriptor }
         ensures within { IfSome result (λ _. descriptor < 16) }
     {
-        match self.table.process(at) {
+        match self.table.process(self.current()) {
             Some(process) => named(&process.descriptors, descriptor),
             None => None,
         }
@@ -241,24 +260,26 @@ impl<D: BlockDev, T: Translate> Kernel<D, T> {
     }
 
     /// Does the instruction at the pc of the running process, or says why it isn't done.
-    pub fn execute(&mut self, at: usize) -> Option<Trap>
-        requires { self.old.spaces.active ≡ Some at }
-        ensures done { IfNone result (Executes self.old self.new at) }
-        ensures trap { IfSome result (λ t. (cycle_at self.old.spaces at ≡ Err t) × (self.new ≡ self.old)) }
+    pub fn execute(&mut self) -> Option<Trap>
+        requires { HasCurrent self.old }
+        ensures done { IfNone result (Executes self.old self.new (current self.old)) }
+        ensures trap { IfSome result
+            (λ t. (cycle_at self.old.spaces (current self.old) ≡ Err t) × (self.new ≡ self.old)) }
     {
         let trap = self.spaces.execute();
         self.spaces.frames_suffice();
         trap
     }
 
-    /// The process in a slot, with what the hart holds.
-    pub fn on_hart(&self, at: usize) -> Option<Process>
-        ensures process { result ≡ option_map (on_hart self.now.spaces) (slot self.now.table.places at) }
-        ensures within { IfSome result (λ _. at < 64) }
+    /// The running process, with what the hart holds.
+    pub fn on_hart(&self) -> Option<Process>
+        ensures process { result
+            ≡ option_map (on_hart self.now.spaces) (slot self.now.table.places (current self.now)) }
+        ensures within { IfSome result (λ _. current self.now < 64) }
     {
         let registers = *self.spaces.registers();
         let pc = self.spaces.pc();
-        match self.table.process(at) {
+        match self.table.process(self.current()) {
             Some(process) => Some(Process {
                 registers,
                 pc,
@@ -268,27 +289,28 @@ impl<D: BlockDev, T: Translate> Kernel<D, T> {
         }
     }
 
-    // The process that ran, in slot `at`, runs no more.
-    fn leave(&mut self, at: usize, mode: Mode)
-        requires sound { IsKernel (left_as self.old at mode) }
-        requires watched { Watches (left_as self.old at mode) }
-        ensures { self.new ≡ left_as self.old at mode }
+    // The running process runs no more.
+    fn leave(&mut self, mode: Mode)
+        requires sound { IsKernel (left_as self.old (current self.old) mode) }
+        requires watched { Watches (left_as self.old (current self.old) mode) }
+        ensures { self.new ≡ left_as self.old (current self.old) mode }
     {
+        let at = self.current();
         self.table
             .leave(at, self.spaces.registers(), self.spaces.pc(), mode);
         self.spaces.deactivate();
     }
 
     /// The running process waits.
-    pub fn block(&mut self, at: usize, pending: Pending)
-        requires running { self.old.spaces.active ≡ Some at }
-        requires pending { IsPending (descriptors_at self.old at) (view_at self.old.spaces at).memory pending
-            pending.number }
-        requires awaits { IsAwaiting self.old.files (descriptors_at self.old at) pending }
-        ensures { self.new ≡ blocked self.old at pending }
+    pub fn block(&mut self, pending: Pending)
+        requires running { HasCurrent self.old }
+        requires pending { IsPending (current_descriptors self.old)
+            (current_space self.old).memory pending pending.number }
+        requires awaits { IsAwaiting self.old.files (current_descriptors self.old) pending }
+        ensures { self.new ≡ blocked self.old (current self.old) pending }
     {
         self.is_sound();
-        self.leave(at, Mode::Waiting(pending));
+        self.leave(Mode::Waiting(pending));
     }
 
     /// The process in a slot, without its memory; of the running one with what the hart holds.
@@ -297,7 +319,7 @@ impl<D: BlockDev, T: Translate> Kernel<D, T> {
         ensures within { IfSome result (λ _. at < 64) }
     {
         if self.spaces.active() == Some(at) {
-            self.on_hart(at)
+            self.on_hart()
         } else {
             self.table.process(at).copied()
         }
@@ -369,19 +391,19 @@ impl<D: BlockDev, T: Translate> Kernel<D, T> {
     }
 
     /// Whether the running process may write `count` bytes from `address` on.
-    pub fn can_write(&self, at: usize, address: u64, count: u64) -> bool
-        requires { self.now.spaces.active ≡ Some at }
-        ensures { result ≡ can_write (view_at self.now.spaces at).memory address count }
+    pub fn can_write(&self, address: u64, count: u64) -> bool
+        requires { HasCurrent self.now }
+        ensures { result ≡ can_write (current_space self.now).memory address count }
     {
-        self.spaces.can_write(at, address, count)
+        self.spaces.can_write(self.current(), address, count)
     }
 
     /// The size of the running process in bytes.
-    pub fn size(&self, at: usize) -> u64
-        requires { self.now.spaces.active ≡ Some at }
-        ensures { result ≡ (view_at self.now.spaces at).size }
+    pub fn size(&self) -> u64
+        requires { HasCurrent self.now }
+        ensures { result ≡ (current_space self.now).size }
     {
-        self.spaces.size(at)
+        self.spaces.size(self.current())
     }
 
     /// Marks the process in a slot as killed; it doesn't run.
@@ -421,8 +443,8 @@ impl<D: BlockDev, T: Translate> Kernel<D, T> {
         ensures { self.new ≡ waking (ticked self.old) self.new.table.awake }
     {
         self.is_sound();
-        if let Some(at) = self.active() {
-            self.leave(at, Mode::Ready);
+        if self.active().is_some() {
+            self.leave(Mode::Ready);
         }
         self.ticks = self.ticks.wrapping_add(1);
         wakeup(&mut self.table, Channel::Ticks(self.ticks));

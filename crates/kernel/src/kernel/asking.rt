@@ -1,10 +1,11 @@
 //! What a call asks of the kernel before it does anything.
-ghost use Rattle.std.specs.Prelude.{◌≡◌, ◌<◌, ◌≤◌, ◌≢◌, All, IfSome, Some, false, is_some, length, not, take};
+ghost use Rattle.std.specs.Prelude.{◌≡◌, ◌<◌, ◌≤◌, ◌≢◌, All, IfSome, false, is_some, length, not, take};
 ghost use Rattle.std.specs.Prelude.{true};
+ghost use Rattle.kernel.specs.Kernel.{HasCurrent, current, current_space};
 ghost use Rattle.files.specs.Meant.{end_of};
 ghost use Rattle.files.specs.Places.{file_at, free_count, has_end, node_at, opens_of, readable_at, writable_at};
 ghost use Rattle.proc.specs.Places.{is_child_of, place_where};
-ghost use Rattle.spaces.specs.Spaces.{bytes_in, has_pipe, view_at};
+ghost use Rattle.spaces.specs.Spaces.{bytes_in, has_pipe};
 ghost use Rattle.tree.specs.Whole.{IsWhole};
 ghost use Rattle.unixmodel.specs.Files.{free_slot};
 ghost use Rattle.unixmodel.specs.Memory.{path_at, read_bytes};
@@ -130,30 +131,30 @@ impl<D: BlockDev, T: Translate> Kernel<D, T> {
 
     /// Whether the running process may read `count` bytes from `address` on.
     #[inline]
-    pub fn can_read(&self, at: usize, address: u64, count: u64) -> bool
-        requires { self.now.spaces.active ≡ Some at }
-        ensures { result ≡ is_some (read_bytes (view_at self.now.spaces at).memory address count) }
+    pub fn can_read(&self, address: u64, count: u64) -> bool
+        requires { HasCurrent self.now }
+        ensures { result ≡ is_some (read_bytes (current_space self.now).memory address count) }
     {
-        self.spaces.can_read(at, address, count)
+        self.spaces.can_read(self.current(), address, count)
     }
 
     /// The bytes from an address of the running process to the end of its page; none where it may not read them.
     #[inline]
-    pub fn readable(&self, at: usize, address: u64) -> &[u8]
-        requires { self.now.spaces.active ≡ Some at }
-        ensures { result.now ≡ piece_at Load (view_at self.now.spaces at).memory address }
+    pub fn readable(&self, address: u64) -> &[u8]
+        requires { HasCurrent self.now }
+        ensures { result.now ≡ piece_at Load (current_space self.now).memory address }
     {
-        self.spaces.readable(at, address)
+        self.spaces.readable(self.current(), address)
     }
 
     /// Copies the path at an address of the running process, and returns its length; `None` where there is none.
     #[inline]
-    pub fn copy_path(&self, at: usize, address: u64, buffer: &mut [u8; 127]) -> Option<usize>
-        requires { self.now.spaces.active ≡ Some at }
-        ensures path { string_in buffer.new result ≡ path_at (view_at self.now.spaces at).memory address }
+    pub fn copy_path(&self, address: u64, buffer: &mut [u8; 127]) -> Option<usize>
+        requires { HasCurrent self.now }
+        ensures path { string_in buffer.new result ≡ path_at (current_space self.now).memory address }
         ensures within { IfSome result (λ n. n ≤ 127) }
         ensures bytes { IfSome result (λ n. All (λ b. b ≢ 0) (take n buffer.new)) }
     {
-        self.spaces.copy_path(at, address, buffer)
+        self.spaces.copy_path(self.current(), address, buffer)
     }
 }

@@ -1,7 +1,8 @@
 //! The kernel's steps on the files of its disk.
 ghost use Rattle.std.specs.Prelude.{◌≡◌, ◌≢◌, All, IsSome, None, OnOk, Some, false, length};
 ghost use Rattle.std.specs.Bool.{OnTrue};
-ghost use Rattle.kernel.specs.Disk.{FilesDisk, ReadsDisk, directory_at, with_tree};
+ghost use Rattle.kernel.specs.Disk.{FilesDisk, ReadsDisk, current_directory, with_tree};
+ghost use Rattle.kernel.specs.Kernel.{HasCurrent, current};
 ghost use Rattle.name_rules.specs.Rules.{KeepsTree};
 ghost use Rattle.tree.specs.Calls.{IsPart, MakesDirectory, MakesLink, MakesNode, TakesName};
 ghost use Rattle.tree.specs.Leaves.{leaf_node};
@@ -31,15 +32,15 @@ pub(super) fn is_done<D: BlockDev, X, E>(tree: &Tree<D>, done: &Result<X, E>)
 impl<D: BlockDev, T: Translate> Kernel<D, T> {
     // The directory that the running process works in, from which a path is looked for.
     #[inline]
-    pub(super) fn home(&self, at: usize) -> usize
-        requires running { self.now.spaces.active ≡ Some at }
+    pub(super) fn home(&self) -> usize
+        requires running { HasCurrent self.now }
         requires up { self.now.tree.failed ≡ false }
-        ensures is { result ≡ directory_at self.now at }
+        ensures is { result ≡ current_directory self.now }
         ensures there { IsSome (slot self.now.tree.files result) }
         ensures rules { KeepsTree self.now.tree.files }
     {
         self.is_sound();
-        match self.table.process(at) {
+        match self.table.process(self.current()) {
             Some(process) => process.directory as usize,
             None => 0,
         }
@@ -47,13 +48,13 @@ impl<D: BlockDev, T: Translate> Kernel<D, T> {
 
     /// The number that a path reaches from the directory that the running process works in.
     #[inline]
-    pub fn resolve(&mut self, at: usize, path: &[u8]) -> Result<Option<usize>, DeviceFault>
-        requires running { self.old.spaces.active ≡ Some at }
+    pub fn resolve(&mut self, path: &[u8]) -> Result<Option<usize>, DeviceFault>
+        requires running { HasCurrent self.old }
         requires up { self.old.tree.failed ≡ false }
         ensures { ReadsDisk self.old self.new
-            (λ number. number ≡ find self.old.tree.files (directory_at self.old at) path.now) result }
+            (λ number. number ≡ find self.old.tree.files (current_directory self.old) path.now) result }
     {
-        let directory = self.home(at);
+        let directory = self.home();
         self.tree.resolve(directory, path)
     }
 
@@ -125,15 +126,15 @@ impl<D: BlockDev, T: Translate> Kernel<D, T> {
 
     /// Makes a file or a device with the lowest free number and a name for it, and returns the number.
     #[inline]
-    pub fn create(&mut self, at: usize, path: &[u8], leaf: Leaf) -> Result<usize, TreeFault>
-        requires running { self.old.spaces.active ≡ Some at }
+    pub fn create(&mut self, path: &[u8], leaf: Leaf) -> Result<usize, TreeFault>
+        requires running { HasCurrent self.old }
         requires up { self.old.tree.failed ≡ false }
         requires path { All (λ b. b ≢ 0) path.now }
-        ensures made { MakesNode self.old.tree self.new.tree (directory_at self.old at) path.now (leaf_node leaf)
+        ensures made { MakesNode self.old.tree self.new.tree (current_directory self.old) path.now (leaf_node leaf)
             result }
         ensures rest { self.new ≡ with_tree self.old self.new.tree }
     {
-        let directory = self.home(at);
+        let directory = self.home();
         let made = self.tree.create(directory, path, leaf);
         is_done(&self.tree, &made);
         made
@@ -141,14 +142,14 @@ impl<D: BlockDev, T: Translate> Kernel<D, T> {
 
     /// Makes a directory with the lowest free number, and a name for it.
     #[inline]
-    pub fn create_directory(&mut self, at: usize, path: &[u8]) -> Result<(), TreeFault>
-        requires running { self.old.spaces.active ≡ Some at }
+    pub fn create_directory(&mut self, path: &[u8]) -> Result<(), TreeFault>
+        requires running { HasCurrent self.old }
         requires up { self.old.tree.failed ≡ false }
         requires path { All (λ b. b ≢ 0) path.now }
-        ensures made { MakesDirectory self.old.tree self.new.tree (directory_at self.old at) path.now result }
+        ensures made { MakesDirectory self.old.tree self.new.tree (current_directory self.old) path.now result }
         ensures rest { self.new ≡ with_tree self.old self.new.tree }
     {
-        let directory = self.home(at);
+        let directory = self.home();
         let made = self.tree.create_directory(directory, path);
         is_done(&self.tree, &made);
         made
@@ -156,14 +157,14 @@ impl<D: BlockDev, T: Translate> Kernel<D, T> {
 
     /// Adds a name for a file or a device.
     #[inline]
-    pub fn link(&mut self, at: usize, old: &[u8], new: &[u8]) -> Result<(), TreeFault>
-        requires running { self.old.spaces.active ≡ Some at }
+    pub fn link(&mut self, old: &[u8], new: &[u8]) -> Result<(), TreeFault>
+        requires running { HasCurrent self.old }
         requires up { self.old.tree.failed ≡ false }
         requires path { All (λ b. b ≢ 0) new.now }
-        ensures made { MakesLink self.old.tree self.new.tree (directory_at self.old at) old.now new.now result }
+        ensures made { MakesLink self.old.tree self.new.tree (current_directory self.old) old.now new.now result }
         ensures rest { self.new ≡ with_tree self.old self.new.tree }
     {
-        let directory = self.home(at);
+        let directory = self.home();
         let made = self.tree.link(directory, old, new);
         is_done(&self.tree, &made);
         made
@@ -171,13 +172,13 @@ impl<D: BlockDev, T: Translate> Kernel<D, T> {
 
     /// Removes a name, and its node too where that has no links any more and nobody holds it.
     #[inline]
-    pub fn unlink(&mut self, at: usize, path: &[u8]) -> Result<(), TreeFault>
-        requires running { self.old.spaces.active ≡ Some at }
+    pub fn unlink(&mut self, path: &[u8]) -> Result<(), TreeFault>
+        requires running { HasCurrent self.old }
         requires up { self.old.tree.failed ≡ false }
-        ensures made { TakesName self.old.tree self.new.tree (directory_at self.old at) path.now result }
+        ensures made { TakesName self.old.tree self.new.tree (current_directory self.old) path.now result }
         ensures rest { self.new ≡ with_tree self.old self.new.tree }
     {
-        let directory = self.home(at);
+        let directory = self.home();
         let made = self.tree.unlink(directory, path);
         is_done(&self.tree, &made);
         made

@@ -11,7 +11,7 @@ ghost use Rattle.proc.specs.declared.process.Process.{Process};
 ghost use Rattle.unixmodel.specs.State.{holds};
 ghost use Rattle.unixmodel.specs.Turn.{ready, turn};
 
-use crate::kernel::Kernel;
+use crate::kernel::{Kernel, pid_of};
 use crate::ready::{Awaited, has_slept};
 use blockdev::BlockDev;
 use proc::Place;
@@ -122,7 +122,7 @@ impl<D: BlockDev, T: Translate> Kernel<D, T> {
         self.is_sound();
         match self.turn_next() {
             None => None,
-            Some(next) => Some(self.pid(next)),
+            Some(next) => Some(pid_of(self.table.process(next))),
         }
     }
 
@@ -133,7 +133,7 @@ impl<D: BlockDev, T: Translate> Kernel<D, T> {
         self.is_sound();
         match self.active() {
             None => None,
-            Some(at) => Some(self.pid(at)),
+            Some(_) => Some(self.pid()),
         }
     }
 

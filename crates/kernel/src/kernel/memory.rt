@@ -1,9 +1,9 @@
 //! The kernel's steps on the memory of the running process: bytes are read and written, and it grows and shrinks.
-ghost use Rattle.std.specs.Prelude.{◌≡◌, ◌+◌, ◌-◌, ◌<◌, ◌≤◌, Some, length, min, take, true};
+ghost use Rattle.std.specs.Prelude.{◌≡◌, ◌+◌, ◌-◌, ◌<◌, ◌≤◌, length, min, take, true};
 ghost use Rattle.std.specs.Bool.{OnFalse, OnTrue};
-ghost use Rattle.kernel.specs.Kernel.{typed, waking};
+ghost use Rattle.kernel.specs.Kernel.{HasCurrent, current, current_space, typed, waking};
 ghost use Rattle.kernel.specs.Memory.{drew, resized, sent, wrote};
-ghost use Rattle.spaces.specs.Spaces.{bytes_in, fitting, has_pipe, read_at, taken_frames, view_at};
+ghost use Rattle.spaces.specs.Spaces.{bytes_in, fitting, has_pipe, read_at, taken_frames};
 ghost use Rattle.unixmodel.specs.Console.{take_line};
 ghost use Rattle.unixmodel.specs.declared.trap.Access.TheVariants.{Load};
 ghost use Rattle.unixmodel.specs.Memory.{can_write, reach};
@@ -27,22 +27,23 @@ const HEAP: Perm = Perm {
 impl<D: BlockDev, T: Translate> Kernel<D, T> {
     /// A law: the pages of the running process suffice for its size, and each has 4096 bytes. It runs no code.
     #[inline]
-    pub fn pages_are_whole(&self, at: usize)
-        requires { self.now.spaces.active ≡ Some at }
-        ensures few { length (view_at self.now.spaces at).memory ≤ 32768 }
-        ensures whole { length (view_at self.now.spaces at).memory ≡ ceil_div (view_at self.now.spaces at).size 4096 }
-        ensures sized { IsSized (view_at self.now.spaces at).memory }
+    pub fn pages_are_whole(&self)
+        requires { HasCurrent self.now }
+        ensures few { length (current_space self.now).memory ≤ 32768 }
+        ensures whole { length (current_space self.now).memory ≡ ceil_div (current_space self.now).size 4096 }
+        ensures sized { IsSized (current_space self.now).memory }
     {
-        self.spaces.pages_are_whole(at);
+        self.spaces.pages_are_whole(self.current());
     }
 
     /// Puts bytes into the memory of the running process, which may write them all.
     #[inline]
-    pub fn write(&mut self, at: usize, address: u64, bytes: &[u8])
-        requires running { self.old.spaces.active ≡ Some at }
-        requires can { can_write (view_at self.old.spaces at).memory address (length bytes.now) ≡ true }
-        ensures { self.new ≡ wrote self.old at address bytes.now }
+    pub fn write(&mut self, address: u64, bytes: &[u8])
+        requires running { HasCurrent self.old }
+        requires can { can_write (current_space self.old).memory address (length bytes.now) ≡ true }
+        ensures { self.new ≡ wrote self.old (current self.old) address bytes.now }
     {
+        let at = self.current();
         let _written = self.spaces.write(at, address, bytes);
         self.spaces.frames_suffice();
     }
@@ -63,13 +64,14 @@ impl<D: BlockDev, T: Translate> Kernel<D, T> {
 
     /// Moves at most `count` bytes of a pipe to an address of the running process, and returns how many.
     #[inline]
-    pub fn read_pipe(&mut self, at: usize, pipe: usize, address: u64, count: usize) -> usize
-        requires running { self.old.spaces.active ≡ Some at }
+    pub fn read_pipe(&mut self, pipe: usize, address: u64, count: usize) -> usize
+        requires running { HasCurrent self.old }
         requires pipe { has_pipe self.old.spaces pipe ≡ true }
-        requires writable { can_write (view_at self.old.spaces at).memory address count ≡ true }
+        requires writable { can_write (current_space self.old).memory address count ≡ true }
         ensures count { result ≡ min count (length (bytes_in self.old.spaces pipe)) }
-        ensures drew { self.new ≡ waking (drew self.old at pipe address count) self.new.table.awake }
+        ensures drew { self.new ≡ waking (drew self.old (current self.old) pipe address count) self.new.table.awake }
     {
+        let at = self.current();
         let taken = self.spaces.read_pipe(pipe, at, address, count);
         self.spaces.frames_suffice();
         wakeup(&mut self.table, Channel::Bytes); // who writes to the pipe
@@ -78,14 +80,15 @@ impl<D: BlockDev, T: Translate> Kernel<D, T> {
 
     /// Puts bytes from an address of the running process on into a pipe, as many as fit, and returns how many.
     #[inline]
-    pub fn write_pipe(&mut self, at: usize, pipe: usize, address: u64, count: usize) -> usize
-        requires running { self.old.spaces.active ≡ Some at }
+    pub fn write_pipe(&mut self, pipe: usize, address: u64, count: usize) -> usize
+        requires running { HasCurrent self.old }
         requires pipe { has_pipe self.old.spaces pipe ≡ true }
-        requires readable { count ≤ length (reach Load (view_at self.old.spaces at).memory address) }
+        requires readable { count ≤ length (reach Load (current_space self.old).memory address) }
         ensures count { result ≡ length
-            (fitting (bytes_in self.old.spaces pipe) (read_at (view_at self.old.spaces at) address count)) }
-        ensures sent { self.new ≡ waking (sent self.old at pipe address count) self.new.table.awake }
+            (fitting (bytes_in self.old.spaces pipe) (read_at (current_space self.old) address count)) }
+        ensures sent { self.new ≡ waking (sent self.old (current self.old) pipe address count) self.new.table.awake }
     {
+        let at = self.current();
         let put = self.spaces.write_pipe(pipe, at, address, count);
         wakeup(&mut self.table, Channel::Bytes); // who reads the pipe
         put
@@ -93,25 +96,28 @@ impl<D: BlockDev, T: Translate> Kernel<D, T> {
 
     /// Grows the running process by `bytes` bytes, which are 0. Refuses it where the frames don't suffice.
     #[inline]
-    pub fn grow(&mut self, at: usize, bytes: u64) -> bool
-        requires { self.old.spaces.active ≡ Some at }
-        ensures done { OnTrue result (self.new ≡ resized self.old at ((view_at self.old.spaces at).size + bytes)) }
+    pub fn grow(&mut self, bytes: u64) -> bool
+        requires { HasCurrent self.old }
+        ensures done { OnTrue result
+            (self.new ≡ resized self.old (current self.old) ((current_space self.old).size + bytes)) }
         ensures over { OnFalse result
             (self.old.spaces.frames < taken_frames
-            (resized self.old at ((view_at self.old.spaces at).size + bytes)).spaces) }
+            (resized self.old (current self.old) ((current_space self.old).size + bytes)).spaces) }
         ensures refused { OnFalse result (self.new ≡ self.old) }
     {
+        let at = self.current();
         self.spaces.pages_are_whole(at);
         self.spaces.grow(at, bytes, HEAP)
     }
 
     /// Takes the last `bytes` bytes from the memory of the running process.
     #[inline]
-    pub fn shrink(&mut self, at: usize, bytes: u64)
-        requires running { self.old.spaces.active ≡ Some at }
-        requires less { bytes ≤ (view_at self.old.spaces at).size }
-        ensures { self.new ≡ resized self.old at ((view_at self.old.spaces at).size - bytes) }
+    pub fn shrink(&mut self, bytes: u64)
+        requires running { HasCurrent self.old }
+        requires less { bytes ≤ (current_space self.old).size }
+        ensures { self.new ≡ resized self.old (current self.old) ((current_space self.old).size - bytes) }
     {
+        let at = self.current();
         self.spaces.pages_are_whole(at);
         self.spaces.shrink(at, bytes);
         self.spaces.frames_suffice();

@@ -1,5 +1,6 @@
 //! The kernel's steps on the running process, and on others.
 ghost use Rattle.std.specs.Prelude.{◌≡◌};
+ghost use Rattle.kernel.specs.Kernel.{current};
 ghost use Rattle.kernel.specs.Processes.{Forks, MayFork, MayWorkIn, WorksIn, child_of, collected, home_at};
 ghost use Rattle.proc.specs.Places.{reaped_at, zombie_place};
 ghost use Rattle.tree.specs.Tree.{Serves};
@@ -22,25 +23,26 @@ fn make_child(process: &mut Process)
 }
 
 impl<D: BlockDev, T: Translate> Kernel<D, T> {
-    // The directory that the process in slot `at` works in.
-    fn directory(&self, at: usize) -> Option<u32>
-        ensures { result ≡ home_at self.now at }
+    // The directory that the running process works in.
+    fn directory(&self) -> Option<u32>
+        ensures { result ≡ home_at self.now (current self.now) }
     {
-        Some(self.table.process(at)?.directory)
+        Some(self.table.process(self.current())?.directory)
     }
 
     /// The running process has a child, whose pid is the result: it is ready, with the same pages, descriptors and
     /// directory, and a0 is 0. `None`: no slot, pid or frames are left for it; then nothing changes.
     #[inline]
-    pub fn fork(&mut self, at: usize) -> Option<u32>
-        requires { MayFork self.old at }
-        ensures { Forks self.old self.new at result }
+    pub fn fork(&mut self) -> Option<u32>
+        requires { MayFork self.old (current self.old) }
+        ensures { Forks self.old self.new (current self.old) result }
     {
         self.is_sound();
         let Ok(seat) = self.table.next_seat() else {
             return None;
         };
-        let mut process = self.on_hart(at).unwrap();
+        let mut process = self.on_hart().unwrap();
+        let at = self.current();
         if !self.spaces.copy(at, seat.place) {
             return None;
         }
@@ -69,11 +71,13 @@ impl<D: BlockDev, T: Translate> Kernel<D, T> {
     /// The running process works in a directory. The one that it leaves goes where it has no links and nobody holds it
     /// any more.
     #[inline]
-    pub fn work_in(&mut self, at: usize, number: usize) -> Result<(), DeviceFault>
-        requires { MayWorkIn self.old at number }
-        ensures { Serves self.old.tree self.new.tree result (λ done. WorksIn self.old self.new at number) }
+    pub fn work_in(&mut self, number: usize) -> Result<(), DeviceFault>
+        requires { MayWorkIn self.old (current self.old) number }
+        ensures { Serves self.old.tree self.new.tree result
+            (λ done. WorksIn self.old self.new (current self.old) number) }
     {
-        let left = self.directory(at);
+        let at = self.current();
+        let left = self.directory();
         self.tree.is_whole();
         self.tree.hold(number);
         self.table.set_directory(at, number as u32);

@@ -1,5 +1,6 @@
 //! The kernel's step of exec: another program replaces the one that runs.
 ghost use Rattle.std.specs.Prelude.{◌≡◌, ◌%◌, Some, false};
+ghost use Rattle.kernel.specs.Kernel.{HasCurrent, current};
 ghost use Rattle.kernel.specs.Replacing.{ReplacesDisk, begun};
 ghost use Rattle.unixmodel.specs.Files.{Node, slot};
 
@@ -25,17 +26,13 @@ impl<D: BlockDev, T: Translate> Kernel<D, T> {
     /// points at, and returns how it begins.
     /// `None`: it can't be executed, or the frames don't suffice for it beside the old one; then nothing changes.
     /// Where the device fails the process keeps a space.
-    pub fn replace(
-        &mut self,
-        at: usize,
-        number: usize,
-        argv: u64,
-    ) -> Result<Option<Started>, DeviceFault>
-        requires running { self.old.spaces.active ≡ Some at }
+    pub fn replace(&mut self, number: usize, argv: u64) -> Result<Option<Started>, DeviceFault>
+        requires running { HasCurrent self.old }
         requires up { self.old.tree.failed ≡ false }
         requires node { (node : Node) × (slot self.old.tree.files number ≡ Some node) }
-        ensures { ReplacesDisk self.old self.new at number argv result }
+        ensures { ReplacesDisk self.old self.new (current self.old) number argv result }
     {
+        let at = self.current();
         match execute(&mut self.tree, &mut self.spaces, at, number, argv) {
             Ok(Some(started)) => {
                 self.spaces.frames_suffice();

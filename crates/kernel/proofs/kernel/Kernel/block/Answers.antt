@@ -8,5 +8,5 @@ leave-requires g c =
     let s = c.is_sound.ensures in
     record {
       sound = block-keeps s.sound c.requires.running s.zero s.aligned c.requires.pending c.requires.awaits;
-      watched = left-watched s.sound s.watched c.args.at (Waiting c.args.pending) c.requires.running refl;
+      watched = left-watched s.sound s.watched _ (Waiting c.args.pending) c.requires.running refl;
     }

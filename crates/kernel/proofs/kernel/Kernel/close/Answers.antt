@@ -20,6 +20,8 @@ invariant_of-self g c =
       c.close-gone.ensures.files,
       c.set_descriptor.ensures,
       c.from.ensures,
+      c.current-at.ensures,
+      ← c.self.view_is,
     )
     (close-keeps c.self.invariant (rw (← c.self.view_is) at c.requires.may) c.let_one_go.new.tree c.let_one_go.result
     (rw (c.close-gone.ensures.node, c.from.ensures) at c.let_one_go.ensures))
@@ -32,7 +34,8 @@ returns g c =
       c.close-gone.ensures.files,
       c.set_descriptor.ensures,
       c.from.ensures,
+      c.current-at.ensures,
       ← c.self.view_is,
     )
-    (close-serves (kernel_of c.self.inside) c.args.at c.args.descriptor c.args.id
+    (close-serves (kernel_of c.self.inside) _ c.args.descriptor c.args.id
     (rw (c.close-gone.ensures.node, c.from.ensures) at c.let_one_go.ensures))

@@ -9,8 +9,8 @@ invariant_of-self g c =
     let n = c.execute_many.result.0 in
     let new = c.execute_many.new.self in
     on-keeps c.self.invariant
-    (advances-on _ n k c.args.at new c.self.invariant.sound active
-    (advances-at _ k.spaces.active c.args.at n k.spaces new active c.execute_many.ensures.done))
+    (advances-on _ n k _ new c.self.invariant.sound active
+    (advances-at _ k.spaces.active _ n k.spaces new active c.execute_many.ensures.done))
 
 pub returns : goal.returns
 returns g c =
@@ -19,12 +19,12 @@ returns g c =
     let e = c.execute_many.ensures in
     rw (← c.self.view_is) (record {
       done = (
-        advances-at _ k.spaces.active c.args.at c.execute_many.result.0 k.spaces c.execute_many.new.self active
+        advances-at _ k.spaces.active _ c.execute_many.result.0 k.spaces c.execute_many.new.self active
             e.done,
         refl,
       );
       within = e.within;
       ends = e.ends;
-      trap = trap-at k.spaces.active c.args.at c.execute_many.result.0 c.args.count c.execute_many.new.self
+      trap = trap-at k.spaces.active _ c.execute_many.result.0 c.args.count c.execute_many.new.self
           c.execute_many.result.1 active e.trap;
     })

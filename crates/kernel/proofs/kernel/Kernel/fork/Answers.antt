@@ -11,7 +11,8 @@ unwrap-process-requires g c =
     fork-there (runner-of c.is_sound.ensures.sound c.requires.running) c.on_hart.ensures.process
 
 pub copy-requires-clause-from : goal.copy-requires-clause-from
-copy-requires-clause-from g c = active-space c.self.view_is c.self.invariant.sound c.requires.running
+copy-requires-clause-from g c =
+    rw c.current-at.ensures (active-space c.self.view_is c.self.invariant.sound c.requires.running)
 
 pub copy-requires-clause-free : goal.copy-requires-clause-free
 copy-requires-clause-free g c =
@@ -37,11 +38,12 @@ take_seat-requires g c = sym c.in-Ok.ensures.seat
 pub invariant_of-self-2 : goal.invariant_of-self-2
 invariant_of-self-2 g c =
     let may = rw (← c.self.view_is) at c.requires in
+    let d = rw (c.current-at.ensures, ← c.self.view_is) at c.if-not-copy.ensures.done in
     rw (
       c.wake.ensures,
       c.take_seat.ensures,
       c.make_child.ensures,
-      c.if-not-copy.ensures.done.1,
+      d.1,
       c.share_all.ensures,
       c.hold.ensures,
     )
@@ -49,13 +51,13 @@ invariant_of-self-2 g c =
     (rw (← c.self.view_is) at c.is_sound.ensures.zero)
     (rw (← c.self.view_is) at c.is_sound.ensures.aligned)
     (rw (c.unwrap-process.ensures, ← c.self.view_is) at c.on_hart.ensures.process)
-    c.if-not-copy.ensures.done.0)
+    d.0)
 
 pub returns : goal.returns
 returns g c =
     let said = rw (c.unwrap-process.ensures, ← c.self.view_is) at c.on_hart.ensures.process in
     let seat = c.in-Ok.seat in
-    let d = c.if-not-copy.ensures.done in
+    let d = rw (c.current-at.ensures, ← c.self.view_is) at c.if-not-copy.ensures.done in
     rw (
       c.wake.ensures,
       c.take_seat.ensures,
@@ -71,6 +73,6 @@ returns g c =
         next = sym c.in-Ok.ensures.seat;
         fits = d.0;
         same = λ p at. ap (λ (k : Kernel). waking k (slice_set c.self.inside.table.awake seat.place true))
-            (fork-by (kernel_of c.self.inside) c.args.at seat said at);
+            (fork-by (kernel_of c.self.inside) _ seat said at);
       },
     )

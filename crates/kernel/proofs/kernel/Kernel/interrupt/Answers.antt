@@ -1,4 +1,5 @@
-use Rattle.kernel.proofs.Common.{refl, sym, Ready}
+use Rattle.kernel.proofs.Common.{ap, is_some, refl, sym, Ready, ◌∙◌}
+use Rattle.kernel.proofs.Current.{has-some}
 use Rattle.kernel.proofs.Steps.{left-kernel}
 use Rattle.kernel.proofs.Runs.{live, run-of}
 use Rattle.kernel.proofs.Watching.{kernel-waking, left-watched, typed-kernel}
@@ -8,12 +9,12 @@ use Rattle.kernel.proofs.kernel.Kernel.interrupt.Goals as goal
 pub leave-requires : goal.leave-requires
 leave-requires g c =
     let s = c.is_sound.ensures in
-    let active = sym c.in-Some.ensures in
-    let run = (run-of c.args.self.now c.in-Some.at s.sound active).1 in
+    let active = has-some (sym (c.is_some.ensures ∙ ap is_some c.active.ensures) ∙ c.if-is_some.true) in
+    let run = (run-of c.args.self.now _ s.sound active).1 in
     record {
       sound = left-kernel _ _ _ run.0 run.1 s.sound s.zero s.aligned Ready refl refl (live _ _ _ run.0 run.1 s.sound)
           tt;
-      watched = left-watched s.sound s.watched c.in-Some.at Ready active refl;
+      watched = left-watched s.sound s.watched _ Ready active refl;
     }
 
 pub invariant_of-self : goal.invariant_of-self

@@ -10,10 +10,10 @@ hold-requires g c =
 pub invariant_of-self : goal.invariant_of-self
 invariant_of-self g c = rw (c.wakeup.ensures, c.hold.ensures)
     (open-keeps c.self.invariant (rw (← c.self.view_is) at c.requires) c.is_whole.ensures
-    c.open_as-descriptor.ensures.opens)
+    (rw (c.current-at.ensures, ← c.self.view_is) at c.open_as-descriptor.ensures.opens))
 
 pub returns : goal.returns
 returns g c =
-    let o = c.open_as-descriptor.ensures.opens in
+    let o = rw (c.current-at.ensures, ← c.self.view_is) at c.open_as-descriptor.ensures.opens in
     rw (c.wakeup.ensures, c.hold.ensures, ← c.self.view_is)
     (record { place = o.number; first = o.place; free = o.free; same = rw (o.names, o.opens) refl })

@@ -27,11 +27,11 @@ let_one_go-requires g c =
 
 pub invariant_of-self : goal.invariant_of-self
 invariant_of-self g c =
-    rw c.set_directory.ensures
+    rw (c.set_directory.ensures, c.current-at.ensures, ← c.self.view_is)
     (work-keeps c.self.invariant (rw (← c.self.view_is) at c.requires) c.is_whole.ensures c.let_one_go.new.tree
     c.let_one_go.result (rw (c.hold.ensures, c.directory-left.ensures, ← c.self.view_is) at c.let_one_go.ensures))
 
 pub returns : goal.returns
-returns g c = rw (c.set_directory.ensures, ← c.self.view_is)
-    (work-serves (kernel_of c.self.inside) c.args.at c.args.number
+returns g c = rw (c.set_directory.ensures, c.current-at.ensures, ← c.self.view_is)
+    (work-serves (kernel_of c.self.inside) _ c.args.number
     (rw (c.hold.ensures, c.directory-left.ensures, ← c.self.view_is) at c.let_one_go.ensures))
