@@ -1,24 +1,23 @@
 -- Calls of the running process that return at once.
 use Rattle.calls.proofs.Common.{[], Acts, ActsOnDisk, After, answer-here, answered, answered-here, Answers, ap, Appends}
-use Rattle.calls.proofs.Common.{Appends-nil, argument, arith, blocked, Blocks, Bool, Call, call, call_of, called}
+use Rattle.calls.proofs.Common.{Appends-nil, argument, arith, blocked, Blocks, Bool, call, Call, call_of, called}
 use Rattle.calls.proofs.Common.{called_by, Came, can_write, CanWait, cast_signed, cast_unsigned, change_process, Comes}
-use Rattle.calls.proofs.Common.{Console, counting, descriptors-run, descriptors_at, descriptors_in, DeviceFault}
-use Rattle.calls.proofs.Common.{Dispatches, Done, end_at, end_if_killed, end_process, ended, ends-at, entered, Err}
-use Rattle.calls.proofs.Common.{Exit, Exits, false, FileTree, free-here, Getpid, given, goes_on, GoesOn, going_at}
-use Rattle.calls.proofs.Common.{going_by, Halt, has_slept, held-here, Here, here-as, here-of, IfOk, IfSome}
-use Rattle.calls.proofs.Common.{if◌then◌else◌, int_of, IsErr, IsKernel, IsLost, IsMade, IsServed, Kernel, le_trans}
-use Rattle.calls.proofs.Common.{LeavesDisk, LeavesTree, length, limited, List, low, me, memory_at, negsuc, no_pages}
-use Rattle.calls.proofs.Common.{None, of_z-to_z, Ok, OnErr, OnOk, Option, Outcome, outcome_at, outcome_of, Pending}
-use Rattle.calls.proofs.Common.{pending_for, plus, Process, process-here, process-run, process_at, provided}
+use Rattle.calls.proofs.Common.{Console, counting, current, current-is, descriptors-run, descriptors_at, descriptors_in}
+use Rattle.calls.proofs.Common.{Device, DeviceFault, Dispatches, Done, end_at, end_if_killed, end_process, ended}
+use Rattle.calls.proofs.Common.{ends-at, entered, Err, Exit, Exits, false, FileTree, free-here, Getpid, given, goes_on}
+use Rattle.calls.proofs.Common.{GoesOn, going_at, going_by, Halt, has_slept, held-here, Here, here-as, here-of, IfOk}
+use Rattle.calls.proofs.Common.{IfSome, if◌then◌else◌, int_of, IsErr, IsKernel, IsLost, IsMade, IsServed, Kernel}
+use Rattle.calls.proofs.Common.{le_trans, LeavesDisk, LeavesTree, length, limited, List, low, me, memory_at, negsuc}
+use Rattle.calls.proofs.Common.{no_pages, None, of_z-to_z, Ok, OnErr, OnOk, Option, Outcome, outcome_at, outcome_of}
+use Rattle.calls.proofs.Common.{Pending, pending_for, plus, Process, process-here, process-run, process_at, provided}
 use Rattle.calls.proofs.Common.{put_process, quiet, reap, reap-state, refl, Refused, Refuses, renamed-within, Result}
-use Rattle.calls.proofs.Common.{row_of, Runs, self, set-set, settle, settled_by, Sleep, sleep_on, slice_index}
+use Rattle.calls.proofs.Common.{row_of, RunsAt, self, set-set, settle, settled_by, Sleep, sleep_on, slice_index}
 use Rattle.calls.proofs.Common.{slice_set, slot, slot-put, slot-within, Some, SpaceView, started, started_as, State}
 use Rattle.calls.proofs.Common.{state-but, state_of, stopped_at, subst, sym, ticked, true, unwrap_or, Uptime, Waits}
 use Rattle.calls.proofs.Common.{waits-other, waits-run, waking, with_answer, within-state, ℕ, ℤ, ◌%◌, ◌∙◌, ◌≡◌}
 use Rattle.kernel.proofs.Runs.{change-put, regs-kernel, regs-run, regs-state}
 use Rattle.calls.specs.Acts.{CanCome, IsBegun, MayPrint, outcome_by, Tries}
 use Rattle.std.specs.Int.{w32}
-use Rattle.calls.specs.declared.halt.Halt.TheVariants.{Device}
 use Rattle.unixmodel.specs.Process as unix
 
 -- ---- the files of the disk
@@ -80,7 +79,7 @@ pub ticked-tree : (k : Kernel) → (ticked k).tree ≡ k.tree
 ticked-tree k = stopped-tree k k.spaces.active
 
 pub runs-of : {k : Kernel} {i : ℕ} → k.spaces.active ≡ Some i → k.tree.failed ≡ false → IsKernel k
-    → slice_index k.spaces.registers 0 ≡ 0 → k.spaces.pc % 4 ≡ 0 → Runs k i
+    → slice_index k.spaces.registers 0 ≡ 0 → k.spaces.pc % 4 ≡ 0 → RunsAt k i
 runs-of active up sound zero aligned =
     record { active = active; up = up; sound = sound; zero = zero; aligned = aligned }
 
@@ -89,7 +88,7 @@ runs-of active up sound zero aligned =
 aligned-next : (pc : ℕ) → pc % 4 ≡ 0 → plus pc 4 % 4 ≡ 0
 aligned-next pc h = omega arith
 
-module _ {k : Kernel} {i : ℕ} (runs : Runs k i) where
+module _ {k : Kernel} {i : ℕ} (runs : RunsAt k i) where
   begins-row : (o : Option Call) → call_of (low (slice_index k.spaces.registers 17)) ≡ o → let x = here-of runs in
       call (state_of k) i (me x)
       ≡ settle (state_of (entered k)) i (outcome_of (state_of (entered k)) i (self (entered k) x.process x.held) o)
@@ -161,10 +160,11 @@ module _ {k e : Kernel} {i : ℕ} {call : Option Call} (begun : IsBegun k e i)
 
     -- and what that leaves of the files of the disk
     pub fails-of : (rising : Type 0) (halt : Halt)
-        → Tries e new i (outcome_at (state_of e) i call) before after rising (Err halt)
+        → Tries e new (current e) (outcome_at (state_of e) (current e) call) before after rising (Err halt)
         → Dispatches {X = Unit {0}} new (called (state_of k) i) before after rising (Err halt)
         × LeavesTree {X = Unit {0}} k.tree new.tree (Err halt)
-    fails-of rising Console tried = ((tried.0, rw (begun.row call number) tried.1), tried.2 ∙ begun.tree)
+    fails-of rising Console tried =
+        ((tried.0, rw (begun.row call number, ← current-is begun.runs.active) tried.1), tried.2 ∙ begun.tree)
     fails-of rising Device tried = (tried.1, subst (λ (t : FileTree). IsLost t new.tree) begun.tree tried.0)
     fails-of rising _ tried = absurd tried
 
@@ -394,7 +394,7 @@ module _ {k : Kernel} {i : ℕ} (x : Here k i) where
   sleeps goes = begins-on (pending_for k Sleep) Sleep refl goes
 
 -- a call with an unknown number
-pub unbuilt : {k : Kernel} {i : ℕ} {call : Option Call} → (other : Option Call) → Runs k i → call ≡ other
+pub unbuilt : {k : Kernel} {i : ℕ} {call : Option Call} → (other : Option Call) → RunsAt k i → call ≡ other
     → ((p : unix.Process) → outcome_of (state_of k) i p other ≡ Refused) → (at : Option (List ℕ))
     → (bytes : List ℕ) × Comes k k i (outcome_at (state_of k) i call) bytes Refuses × Appends at at bytes
 unbuilt other runs is none at = let x = here-of runs in rw is ([], refused x other (none (me x)), Appends-nil at)

@@ -23,6 +23,7 @@ pub use Rattle.files.specs.Meant.{file_of, target_of}
 pub use Rattle.files.specs.Places.{Counted, file_at, free_count}
 pub use Rattle.files.specs.declared.file.Target.{Target}
 pub use Rattle.inode.specs.declared.InodeStat.{InodeStat}
+pub use Rattle.kernel.proofs.Current.{current-is, has-current}
 pub use Rattle.kernel.proofs.Holding.{home-folder, used-is}
 pub use Rattle.kernel.proofs.Releasing.{is_by, kept-cong}
 pub use Rattle.kernel.proofs.Readies.{busy-state, idle-turn, running-state, stands-open, turn-alive, frames-state}
@@ -36,7 +37,8 @@ pub use Rattle.kernel.proofs.Watching.{kernel-waking, state-but, state-waking}
 pub use Rattle.kernel.specs.Descriptors.{descriptors_in}
 pub use Rattle.kernel.specs.Disk.{directory_at, directory_in, HasRead, IsLost, IsServed, LeavesDisk, with_tree}
 pub use Rattle.kernel.specs.Holding.{FitsFiles, FitsNode, home_in, IsFolder, IsInUse, node_of, node_on}
-pub use Rattle.kernel.specs.Kernel.{answered, argument, base, blocked, computed, counting, descriptors_at, ended}
+pub use Rattle.kernel.specs.Kernel.{answered, argument, base, blocked, computed, counting, current, current_space}
+pub use Rattle.kernel.specs.Kernel.{descriptors_at, ended}
 pub use Rattle.kernel.specs.Kernel.{entered, Kernel, lives, loaded, marked, on_hart, picked, rest_of, started}
 pub use Rattle.kernel.specs.Kernel.{started_as, state_of, stopped_at, ticked, typed, waking}
 pub use Rattle.kernel.specs.Memory.{drew, resized, sent, wrote}
@@ -123,11 +125,11 @@ pub use Rattle.unixmodel.specs.declared.process.Pending.{Pending}
 pub use Rattle.unixmodel.specs.declared.trap.Access.TheVariants.{Load, Store}
 pub use Rattle.vm.specs.Reach.{IsSized, piece_at}
 pub use Rattle.calls.proofs.Running.{answer-here, answered-here, free-here, Here, here-as, here-in, here-of, held-here}
-pub use Rattle.calls.proofs.Running.{me, memory_at, process-here, row_of, wanted}
+pub use Rattle.calls.proofs.Running.{me, memory_at, process-here, row_of, runs-now, wanted}
 pub use Rattle.std.proofs.KnownBytes.{Appends-nil, Appends-trans}
 pub use Rattle.console.proofs.Lines.{begins_more}
 pub use Rattle.calls.specs.Acts.{Acts, ActsOnDisk, called, called_by, CanWait, Comes, GoesOn, GoesOnDisk, going_at}
-pub use Rattle.calls.specs.Acts.{going_by, IsEnd, marked_by, outcome_at, pending_for, Runs, settled_by}
+pub use Rattle.calls.specs.Acts.{going_by, IsEnd, marked_by, outcome_at, pending_for, RunsAt, settled_by}
 pub use Rattle.calls.specs.Gives.{Dispatches, EventGives, halt_of, IsMade, LeavesTree, Makes}
 pub use Rattle.calls.specs.Named.{IsRefused}
 pub use Rattle.calls.specs.Opened.{has_seat}
@@ -138,6 +140,6 @@ pub use Rattle.calls.specs.Replaced.{Reaches}
 pub use Rattle.calls.specs.Steps.{Went}
 pub use Rattle.calls.specs.Transfers.{IsFront, Transfers, Uses}
 pub use Rattle.calls.specs.declared.halt.Halt.{Halt}
-pub use Rattle.calls.specs.declared.halt.Halt.TheVariants.{Console}
+pub use Rattle.calls.specs.declared.halt.Halt.TheVariants.{Console, Device}
 pub use Rattle.calls.specs.declared.outcome.Came.{Came}
 pub use Rattle.calls.specs.declared.outcome.Came.TheVariants.{Answers, Blocks, Exits, KillsItself, Refuses}

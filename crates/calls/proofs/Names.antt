@@ -1,15 +1,15 @@
 -- Calls on names: the running process stays as it is, and the files alone change.
 use Rattle.calls.proofs.Common.{[], Acts, ActsOnDisk, and_left, and_right, Answers, answers, ap, arg, argument}
-use Rattle.calls.proofs.Common.{blocks_of, Call, Came, DeviceFault, directory_at, directory_in, Done, Err, false}
-use Rattle.calls.proofs.Common.{false≢true, Files, find, folder_in, frames_of, given, has_failed, HasRead, held-here}
-use Rattle.calls.proofs.Common.{Here, here-as, home-folder, home-running, home_in, is_device, is_within, IsKernel}
-use Rattle.calls.proofs.Common.{IsRefused, IsServed, IsSome, Kernel, leaf_node, limited, Link, link_row, linked}
-use Rattle.calls.proofs.Common.{linked_in, List, lt-leb, Made, made_at, made_directory, made_files, made_in, MakesNode}
-use Rattle.calls.proofs.Common.{me, Mkdir, mkdir_row, Mknod, mknod_row, nat_le, Node, None, Ok, open_limit, Option}
-use Rattle.calls.proofs.Common.{option_and_then, option_map, Outcome, outcome_at, outcome_of, Overflows, path_argument}
-use Rattle.calls.proofs.Common.{path_at, provided, Reaches, refl, Refused, Refuses, Result, row_of, Runs, settle}
-use Rattle.calls.proofs.Common.{settled_by, slot, Some, SpaceView, spot_of, State, state_of, subst, sym, TreeFault}
-use Rattle.calls.proofs.Common.{true, with_tree, ℕ, ◌%◌, ◌&&◌, ◌<◌, ◌^◌, ◌∙◌, ◌≡◌}
+use Rattle.calls.proofs.Common.{blocks_of, Call, Came, current, DeviceFault, directory_at, directory_in, Done, Err}
+use Rattle.calls.proofs.Common.{false, false≢true, Files, find, folder_in, frames_of, given, has_failed, HasRead}
+use Rattle.calls.proofs.Common.{held-here, Here, here-as, home-folder, home-running, home_in, is_device, is_within}
+use Rattle.calls.proofs.Common.{IsKernel, IsRefused, IsServed, IsSome, Kernel, leaf_node, limited, Link, link_row}
+use Rattle.calls.proofs.Common.{linked, linked_in, List, lt-leb, Made, made_at, made_directory, made_files, made_in}
+use Rattle.calls.proofs.Common.{MakesNode, me, Mkdir, mkdir_row, Mknod, mknod_row, nat_le, Node, None, Ok, open_limit}
+use Rattle.calls.proofs.Common.{Option, option_and_then, option_map, Outcome, outcome_at, outcome_of, Overflows}
+use Rattle.calls.proofs.Common.{path_argument, path_at, provided, Reaches, refl, Refused, Refuses, Result, row_of}
+use Rattle.calls.proofs.Common.{RunsAt, settle, settled_by, slot, Some, SpaceView, spot_of, State, state_of, subst, sym}
+use Rattle.calls.proofs.Common.{TreeFault, true, with_tree, ℕ, ◌%◌, ◌&&◌, ◌<◌, ◌^◌, ◌∙◌, ◌≡◌}
 use Rattle.tree.specs.Calls.{MakesDirectory, MakesLink}
 use Rattle.unixmodel.specs.NameCalls.{path_arg, with_files}
 use Rattle.tree.proofs.Keeping.{device-is}
@@ -67,8 +67,8 @@ module _ {k e : Kernel} (has : HasRead k e) where
     later = has.later;
   }
 
-  pub read-runs : {i : ℕ} → Runs k i → Runs e i
-  read-runs {i} runs = subst (λ (y : Kernel). Runs y i) (sym has.same)
+  pub read-runs : {i : ℕ} → RunsAt k i → RunsAt e i
+  read-runs {i} runs = subst (λ (y : Kernel). RunsAt y i) (sym has.same)
       (record {
         active = runs.active;
         up = runs.up;
@@ -85,11 +85,15 @@ module _ {k e : Kernel} (has : HasRead k e) where
       (ap (λ (y : Kernel). y.spaces.active) has.same ∙ x.run.active)
       (subst IsKernel (sym has.same) (counting-kernel k e.tree.failures x.sound)) (read-served x.up)
 
+  -- the same process runs
+  pub looked : current e ≡ current k
+  looked = ap current has.same
+
   -- and one that goes on
-  pub after-look : (new : Kernel) (i : ℕ) → k.tree.failed ≡ false → (call : Call) (r : Result Came DeviceFault)
+  on-look : (new : Kernel) (i : ℕ) → k.tree.failed ≡ false → (call : Call) (r : Result Came DeviceFault)
       → ActsOnDisk e new i (Some call) r → ActsOnDisk k new i (Some call) r
-  after-look new i up call (Err fault) lost = lost-after (read-served up) lost
-  after-look new i up call (Ok came) acts = record {
+  on-look new i up call (Err fault) lost = lost-after (read-served up) lost
+  on-look new i up call (Ok came) acts = record {
     makes = subst (λ (y : Kernel). settle (state_of y) i (outcome_at (state_of y) i (Some call))
         ≡ record { state = settled_by (state_of new) i came; bytes = [] }) has.same acts.makes;
     active = acts.active;
@@ -98,6 +102,11 @@ module _ {k e : Kernel} (has : HasRead k e) where
     printed = acts.printed;
     served = served-after (read-served up) acts.served;
   }
+
+  pub after-look : (new : Kernel) → k.tree.failed ≡ false → (call : Call) (r : Result Came DeviceFault)
+      → ActsOnDisk e new (current e) (Some call) r → ActsOnDisk k new (current k) (Some call) r
+  after-look new up call r acts =
+      on-look new (current k) up call r (subst (λ i. ActsOnDisk e new i (Some call) r) looked acts)
 
 -- the path reaches nothing
 pub lost-path : {k e : Kernel} {i : ℕ} (x : Here k i) {path : List ℕ} (rest : List ℕ → ℕ → Outcome) (call : Call)

@@ -3,7 +3,7 @@ use Rattle.calls.proofs.Common.{[], and_parts, ap, arith, Bool, change_node, cou
 use Rattle.calls.proofs.Common.{File, file_of, Files, FitsNode, free-None, free_count, free_slot, get_or-set_other}
 use Rattle.calls.proofs.Common.{get_or-set_same, has_bit, has_seat, here-of, if◌then◌else◌, inl, InodeStat, inr}
 use Rattle.calls.proofs.Common.{is_none, IsKernel, Kernel, kind_of, List, Made, make-parts, me, nat_lt, Node, node_on}
-use Rattle.calls.proofs.Common.{None, none-some, not, OnNode, Option, option_map, process-here, put, refl, Runs}
+use Rattle.calls.proofs.Common.{None, none-some, not, OnNode, Option, option_map, process-here, put, refl, RunsAt}
 use Rattle.calls.proofs.Common.{same_Some, set-slot, slice_set, slot, slot-within, Some, Spot, state-but, state_of}
 use Rattle.calls.proofs.Common.{subst, suc, sym, target_of, Tells, TellsMajor, true, ℕ, ◌==◌, ◌||◌, ◌∙◌, ◌≡◌}
 use Rattle.kernel.specs.Opening.{free_descriptors, MayOpen, opened_on, OpensOn}
@@ -100,7 +100,7 @@ some-place xs n at = elim (cases_eq (count_by is_none xs) 0) [
 
 -- ---- the kernel with one more open file
 
-module _ {k : Kernel} {i : ℕ} (runs : Runs k i) {n f : ℕ} {told : InodeStat} (is : IsOpenable k.tree.files n f told)
+module _ {k : Kernel} {i : ℕ} (runs : RunsAt k i) {n f : ℕ} {told : InodeStat} (is : IsOpenable k.tree.files n f told)
   where
     abbrev g : OpenFile
     g = file_by f (target_by n told.kind told.major)
@@ -129,7 +129,7 @@ module _ {k : Kernel} {i : ℕ} (runs : Runs k i) {n f : ℕ} {told : InodeStat}
               ∙ ap (λ (y : unix.Process). with_open (state_of k) i y fd o.place (file_of g))
               (same_Some (me x) p (sym (process-here x) ∙ at))
               ∙ ap (with_open (state_of k) i p fd o.place) (file-by f n told.kind told.major);
-          runs = subst (λ (y : Kernel). Runs y i) (sym o.same)
+          runs = subst (λ (y : Kernel). RunsAt y i) (sym o.same)
               (record {
                 active = runs.active;
                 up = runs.up;
@@ -142,9 +142,9 @@ module _ {k : Kernel} {i : ℕ} (runs : Runs k i) {n f : ℕ} {told : InodeStat}
 
 -- ---- a file that is emptied
 
-pub cut-runs : {old new : Kernel} {f n i : ℕ} → IsCut old new f n → Runs old i → Runs new i
+pub cut-runs : {old new : Kernel} {f n i : ℕ} → IsCut old new f n → RunsAt old i → RunsAt new i
 cut-runs {i = i} cut runs =
-    subst (λ (y : Kernel). Runs y i) (sym cut.same)
+    subst (λ (y : Kernel). RunsAt y i) (sym cut.same)
     (record {
       active = runs.active;
       up = runs.up;

@@ -10,7 +10,7 @@ use Rattle.calls.proofs.Common.{low, lt-leb, Made, made_at, made_files, made_in,
 use Rattle.calls.proofs.Common.{Node, None, none-some, Ok, Open, open_row, Option, option_and_then}
 use Rattle.calls.proofs.Common.{option_and_then_some, Outcome, outcome_of, Overflows, page_frames, path_argument}
 use Rattle.calls.proofs.Common.{Process, process-here, provided, put_process, Reaches, refl, Refused, Refuses, replaced}
-use Rattle.calls.proofs.Common.{Result, row_of, Runs, settle, slice_index, slot, Some, Spot, spot_of, State, state_of}
+use Rattle.calls.proofs.Common.{Result, row_of, RunsAt, settle, slice_index, slot, Some, Spot, spot_of, State, state_of}
 use Rattle.calls.proofs.Common.{subst, sym, Tells, TreeFault, true, view_at, with_tree, WorksIn, ℕ, ◌%◌, ◌+◌, ◌<◌, ◌∙◌}
 use Rattle.calls.proofs.Common.{◌≡◌, ◌≢◌, ◌≤◌}
 use Rattle.kernel.specs.Opening.{free_descriptors}
@@ -206,7 +206,7 @@ module _ {k : Kernel} {i : ℕ} (x : Here k i) where
           new-there : slot mid.tree.files v ≡ Some (File 1 [])
           new-there = made-there {made = new_node} made
 
-          pub created-runs : Runs k i → Runs mid i
+          pub created-runs : RunsAt k i → RunsAt mid i
           created-runs runs = runs-of (ap (λ (y : Kernel). y.spaces.active) rest ∙ runs.active)
               (acts.failed ∙ ap has_failed done) sound
               (ap (λ (y : Kernel). slice_index y.spaces.registers 0) rest ∙ runs.zero)

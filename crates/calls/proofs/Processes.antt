@@ -8,7 +8,7 @@ use Rattle.calls.proofs.Common.{length, limited, links_of, List, loaded, map, ma
 use Rattle.calls.proofs.Common.{natural, negsuc, None, Ok, on_hart, open_limit, Option, option_map, Outcome}
 use Rattle.calls.proofs.Common.{place_called, place_of_pid, Places, pos, Process, process-here, process_at, provided}
 use Rattle.calls.proofs.Common.{put, quiet, reap, refl, Refused, Refuses, reheld-full, resized, resized-state, rest_of}
-use Rattle.calls.proofs.Common.{row_of, Runs, Sbrk, settle, settled_by, slice_index, slice_set, slot, slot-put}
+use Rattle.calls.proofs.Common.{row_of, RunsAt, Sbrk, settle, settled_by, slice_index, slice_set, slot, slot-put}
 use Rattle.calls.proofs.Common.{slot-within, Some, SpaceView, State, state-but, state-waking, state_of, subst, suc}
 use Rattle.calls.proofs.Common.{sum_by, sym, taken_frames, true, view_at, waking, with_answer, with_table, within-state}
 use Rattle.calls.proofs.Common.{without_nodes, without_opens, without_pipes, zero, ℕ, ℤ, ◌%◌, ◌&&◌, ◌+ℤ◌, ◌+◌, ◌<◌}
@@ -200,7 +200,7 @@ named-is os (suc n) some = refl
 
 -- ---- fork
 
-module _ {k : Kernel} {i : ℕ} (runs : Runs k i) where
+module _ {k : Kernel} {i : ℕ} (runs : RunsAt k i) where
   abbrev x : Here k i
   x = here-of runs
 

@@ -1,7 +1,8 @@
 -- The running process, as the calls' lemmas take it.
-use Rattle.std.proofs.Common.{◌≡◌, ◌∙◌, ℕ, ap, false, Some}
+use Rattle.std.proofs.Common.{◌≡◌, ◌∙◌, ℕ, ap, false, Some, subst, sym}
 use Rattle.std.specs.Prelude.{slice_set}
-use Rattle.calls.specs.Acts.{Runs}
+use Rattle.calls.specs.Acts.{Runs, RunsAt}
+use Rattle.kernel.proofs.Current.{current-is}
 use Rattle.kernel.proofs.Runs.{answer-run, not-killed, process-run, regs-kernel, regs-run, self}
 use Rattle.kernel.proofs.Steps.{held-run}
 use Rattle.kernel.proofs.Turning.{Runner, runner-of}
@@ -34,8 +35,12 @@ pub record Here (k : Kernel) (i : ℕ) : Type 0 where
 pub here-in : {k : Kernel} {i : ℕ} → IsKernel k → k.spaces.active ≡ Some i → k.tree.failed ≡ false → Here k i
 here-in sound active up = record { runner = runner-of sound active; up = up }
 
-pub here-of : {k : Kernel} {i : ℕ} → Runs k i → Here k i
+pub here-of : {k : Kernel} {i : ℕ} → RunsAt k i → Here k i
 here-of runs = here-in runs.sound runs.active runs.up
+
+-- it is the one of the current slot
+pub runs-now : {k : Kernel} {i : ℕ} → RunsAt k i → Runs k
+runs-now {k} runs = subst (RunsAt k) (sym (current-is runs.active)) runs
 
 -- it still runs in another kernel
 pub here-as : {k new made : Kernel} {i : ℕ} → Here k i → IsKernel new → new ≡ made

@@ -1,16 +1,17 @@
 -- Events: a tick, a key, and a step, in which the running process does an instruction, or a process is picked where
 -- none runs.
 use Rattle.calls.proofs.Common.{After, ap, Appends, Appends-nil, Bool, called, called_by, Came, CanWait, computed}
-use Rattle.calls.proofs.Common.{Console, counting, descriptors_in, DeviceFault, Dispatches, effect_of, end_process}
-use Rattle.calls.proofs.Common.{ended, ends-run, Err, EventGives, execute, execute_at, false, goes_on, GoesOn, going_at}
-use Rattle.calls.proofs.Common.{going_by, Halt, halt_of, IfOk, if◌then◌else◌, IsKernel, IsMade, IsPending, Kernel}
-use Rattle.calls.proofs.Common.{kernel-waking, Key, key, List, lives, me_of, Memory, memory_at, moved-state, negsuc}
-use Rattle.calls.proofs.Common.{no_pages, None, Ok, OnOk, Option, Pending, picked, Process, process-run, process_at}
-use Rattle.calls.proofs.Common.{quiet, refl, Result, resume, Runner, running-state, Runs, settle, settled_by}
-use Rattle.calls.proofs.Common.{slice_index, slot, Some, SpaceView, started, State, state-but, state-waking, state_of}
-use Rattle.calls.proofs.Common.{Step, step, stopped_at, stops-run, subst, sym, take_turn, Tick, ticked, true, turn}
-use Rattle.calls.proofs.Common.{turn-alive, typed, unwrap_or, waking, with_space, ℕ, ℤ, ◌%◌, ◌+◌, ◌^◌, ◌∙◌, ◌≡◌}
-use Rattle.unixmodel.specs.declared.process.Mode.TheVariants.{Ready, Running, Waiting}
+use Rattle.calls.proofs.Common.{Console, counting, descriptors_in, Device, DeviceFault, Dispatches, effect_of}
+use Rattle.calls.proofs.Common.{end_process, ended, ends-run, Err, EventGives, execute, execute_at, false, FileTree}
+use Rattle.calls.proofs.Common.{goes_on, GoesOn, going_at, going_by, Halt, halt_of, IfOk, if◌then◌else◌, IsKernel}
+use Rattle.calls.proofs.Common.{IsMade, IsPending, Kernel, kernel-waking, Key, key, LeavesDisk, LeavesTree, List, lives}
+use Rattle.calls.proofs.Common.{me_of, Memory, memory_at, moved-state, negsuc, no_pages, None, Ok, OnOk, Option}
+use Rattle.calls.proofs.Common.{Pending, picked, Process, process-run, process_at, quiet, refl, Result, resume, Runner}
+use Rattle.calls.proofs.Common.{running-state, RunsAt, settle, settled_by, slice_index, slot, Some, SpaceView, started}
+use Rattle.calls.proofs.Common.{State, state-but, state-waking, state_of, Step, step, stopped_at, stops-run, subst, sym}
+use Rattle.calls.proofs.Common.{take_turn, Tick, ticked, true, turn, turn-alive, typed, unwrap_or, waking, with_space}
+use Rattle.calls.proofs.Common.{ℕ, ℤ, ◌%◌, ◌+◌, ◌^◌, ◌∙◌, ◌≡◌}
+use Rattle.unixmodel.specs.declared.process.Mode.TheVariants.{Ready, Running, Waiting, Zombie}
 use Rattle.kernel.proofs.Picking.{picked-state, picks-killed, picks-ready, started-is, started-kernel, started-run}
 use Rattle.kernel.proofs.Picking.{started-state, started_to}
 use Rattle.unixmodel.specs.declared.process.Mode.{Mode}
@@ -21,8 +22,8 @@ use Rattle.unixmodel.specs.Next.{acted, is_ecall, memory_after, pick}
 use Rattle.unixmodel.specs.Cycle.{cycle}
 use Rattle.unixmodel.specs.declared.trap.Trap.{Trap}
 use Rattle.unixmodel.specs.Meaning.{Computed}
-use Rattle.calls.specs.declared.halt.Halt.TheVariants.{Device}
-use Rattle.calls.specs.Resuming.{taken, resumed, resumed_by, resumed_in, taken_by, WaitsIn}
+use Rattle.calls.specs.Gives.{halt_after}
+use Rattle.calls.specs.Resuming.{taken, taken_by}
 use Rattle.unixmodel.specs.Next as next
 use Rattle.unixmodel.specs.Process as unix
 
@@ -86,6 +87,18 @@ does-made new a before after rising None halts made =
 does-made new a before after rising (Some status) halts made =
     record { state = made.state; halts = ap (λ (s : State). s.halted) (sym made.state) ∙ halts; printed = made.printed }
 
+-- a turn took the process that it picked
+pub took-gives : (new : Kernel) (a : After) (at : Option (List ℕ)) (r : Result (Unit {0}) DeviceFault)
+    → OnOk r (a ≡ quiet (state_of new)) → EventGives new a at at ⊥ (halt_after r new.halted)
+took-gives new a at (Ok done) made = does-made new a at at ⊥ new.halted refl (made-quiet new a at made)
+took-gives new a at (Err fault) made = Appends-nil at
+
+pub took-leaves : (old new : FileTree) (halted : Option ℤ) (r : Result (Unit {0}) DeviceFault) → LeavesDisk old new r
+    → LeavesTree {X = Unit {0}} old new (halt_after r halted)
+took-leaves old new None (Ok done) leaves = leaves
+took-leaves old new (Some status) (Ok done) leaves = leaves
+took-leaves old new halted (Err fault) leaves = leaves
+
 -- the device or the console failed
 pub does-err : (new : Kernel) (a b : After) (before after : Option (List ℕ)) (rising : Type 0) (e : Halt) → a ≡ b
     → Dispatches {X = Unit {0}} new b before after rising (Err e) → EventGives new a before after rising (Err e)
@@ -131,6 +144,25 @@ module _ {k : Kernel} {i : ℕ} (x : Runner k i) where
         ∙ rw fault (ap quiet (ends-run k i x.process x.held x.run x.sound z a (negsuc 0) up))
 
 -- ---- a picked process
+
+-- the process in a slot goes on with its pending call
+abbrev pub resumed_in : State → ℕ → unix.Process → Mode → After
+resumed_in s i p Running = quiet s
+resumed_in s i p Ready = quiet s
+resumed_in s i p (Waiting w) = resume s i p w
+resumed_in s i p (Zombie status) = quiet s
+
+abbrev pub resumed_by : State → ℕ → Option unix.Process → After
+resumed_by s i None = quiet s
+resumed_by s i (Some p) = resumed_in s i p p.mode
+
+abbrev pub resumed : State → ℕ → After
+resumed s i = resumed_by s i (process_at s i)
+
+-- it waits with this pending call, and is not killed
+abbrev pub WaitsIn : Option Process → Pending → Type 0
+WaitsIn None w = ⊥
+WaitsIn (Some p) w = (p.mode ≡ Waiting w) × (p.killed ≡ false)
 
 alive-some : (o : Option Process) → IsAlive o → (p : Process) × (o ≡ Some p)
 alive-some None alive = absurd alive
@@ -215,7 +247,7 @@ resting-of k i w (Some p) is at waits =
 
 -- the process in slot i, which waited with w in kernel k, runs again in kernel s
 pub record Resumes (k s : Kernel) (i : ℕ) (w : Pending) : Type 0 where
-  pub runs : Runs s i
+  pub runs : RunsAt s i
   pub can : CanWait s i w
   pub row : resumed (state_of k) i ≡ settle (state_of s) i (going_at (state_of s) i w)
 
@@ -283,9 +315,9 @@ module _ {k : Kernel} (i : ℕ) (w : Pending) (is : IsKernel k) (none : k.spaces
         ∙ ap (λ (x : State). settle x i (going_at x i w)) (sym (state-waking (started k i) s.table.awake));
   })
 
--- it is resumed once its call is settled, unless an access failed
-pub resumes-if : {k s new : Kernel} {i : ℕ} {w : Pending} {came : Came} → Resumes k s i w → GoesOn s new i w came
-    → (last : State) → (r : Result (Unit {0}) DeviceFault) → OnOk r (last ≡ settled_by (state_of new) i came)
-    → OnOk r (resumed (state_of k) i ≡ quiet last)
-resumes-if x on last (Ok done) settled = x.row ∙ on.comes.makes ∙ ap quiet (sym settled)
-resumes-if x on last (Err fault) settled = tt
+-- it has gone on once its call is settled, unless an access failed
+pub goes-if : {k new : Kernel} {i : ℕ} {w : Pending} {came : Came} → GoesOn k new i w came → (last : State)
+    → (r : Result (Unit {0}) DeviceFault) → OnOk r (last ≡ settled_by (state_of new) i came)
+    → OnOk r (settle (state_of k) i (going_at (state_of k) i w) ≡ quiet last)
+goes-if on last (Ok done) settled = on.comes.makes ∙ ap quiet (sym settled)
+goes-if on last (Err fault) settled = tt

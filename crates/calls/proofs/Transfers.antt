@@ -8,7 +8,7 @@ use Rattle.calls.proofs.Common.{is_some, IsFresh, IsInUse, IsPending, IsSome, Ke
 use Rattle.calls.proofs.Common.{limited, List, Load, low, me, Memory, memory_at, nat_le, natural, negsuc, Node, node_of}
 use Rattle.calls.proofs.Common.{node_on, None, none-some, of_z-to_z, Ok, Option, option_and_then, option_map, Outcome}
 use Rattle.calls.proofs.Common.{Pending, pending_arg, pending_for, pending_of, pos, Process, provided, reach}
-use Rattle.calls.proofs.Common.{read_bytes, read_row, refl, Refused, Refuses, Result, result_ok, row, row_of, Runs}
+use Rattle.calls.proofs.Common.{read_bytes, read_row, refl, Refused, Refuses, Result, result_ok, row, row_of, RunsAt}
 use Rattle.calls.proofs.Common.{same_Some, slot, Some, some-pipe, SpaceView, Stands, stands-open, State, state_of}
 use Rattle.calls.proofs.Common.{subst, suc, sym, take, Target, target_of, Transfers, true, wanted, write_row, zero, ℕ}
 use Rattle.calls.proofs.Common.{ℤ, ◌&&◌, ◌<◌, ◌^◌, ◌∙◌, ◌≡◌, ◌≢◌}
@@ -251,7 +251,7 @@ module _ {k : Kernel} {i : ℕ} (x : Here k i) (e : End) where
         pub begins-unusable : b ≡ false → Acts k k i (Some (call_on e)) Refuses
         begins-unusable failed = refuses (row-tested ∙ ap (λ (b : Bool). provided b (going x w)) failed)
 
-        pub begins-on-it : Runs k i → b ≡ true → {id : ℕ} → slot (descriptors_at k i) (low (argument k 0)) ≡ Some id
+        pub begins-on-it : RunsAt k i → b ≡ true → {id : ℕ} → slot (descriptors_at k i) (low (argument k 0)) ≡ Some id
             → {v : Pending} → v ≡ w → Begins k i e (record { id = id; target = t; pending = v })
         begins-on-it runs passed {id = id} number made = rw made (record {
           uses = record {
@@ -361,7 +361,7 @@ some-file None some none = false≢true some
 some-file (Some f) some none = none-some f.target (sym none)
 
 -- r is what its descriptor d is open on
-module _ {k : Kernel} {i : ℕ} {w : Pending} (e : End) (runs : Runs k i) (can : CanWait k i w)
+module _ {k : Kernel} {i : ℕ} {w : Pending} (e : End) (runs : RunsAt k i) (can : CanWait k i w)
     (number : w.number ≡ call_on e) {d : ℕ} (place : d ≡ low (pending_arg w 0)) (r : Option Target)
     (told : r ≡ target_named k i d) where
   pending : IsPending (descriptors_at k i) (memory_at k i) w (call_on e)

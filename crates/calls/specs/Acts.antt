@@ -10,7 +10,7 @@ use Rattle.calls.specs.declared.halt.Halt.TheVariants.{Console, Device, Halted, 
 use Rattle.calls.specs.declared.outcome.Came.{Came}
 use Rattle.calls.specs.declared.outcome.Came.TheVariants.{Answers, Blocks, Exits, KillsItself, Refuses}
 use Rattle.kernel.specs.Disk.{IsLost, IsServed}
-use Rattle.kernel.specs.Kernel.{Kernel, argument, descriptors_at, state_of}
+use Rattle.kernel.specs.Kernel.{Kernel, argument, current, descriptors_at, state_of}
 use Rattle.kernel.specs.Sound.{IsAwaiting, IsKernel, IsPending}
 use Rattle.console.specs.Output.{AppendsBeginning}
 use Rattle.spaces.specs.Spaces.{view_at}
@@ -41,12 +41,16 @@ called s i = called_by s i (process_at s i)
 -- ---- the call of the running process
 
 -- the process in slot i runs
-pub record Runs (k : Kernel) (i : ℕ) : Type 0 where
+pub record RunsAt (k : Kernel) (i : ℕ) : Type 0 where
   pub active : k.spaces.active ≡ Some i
   pub up : k.tree.failed ≡ false
   pub sound : IsKernel k
   pub zero : slice_index k.spaces.registers 0 ≡ 0
   pub aligned : k.spaces.pc % 4 ≡ 0
+
+-- the process of the current slot runs
+abbrev pub Runs : Kernel → Type 0
+Runs k = RunsAt k (current k)
 
 abbrev pub outcome_by : State → ℕ → Option Call → Option unix.Process → Outcome
 outcome_by s i call None = Refused
@@ -58,7 +62,7 @@ outcome_at s i call = outcome_by s i call (process_at s i)
 
 -- e is kernel k once its process i has begun its call
 pub record IsBegun (k e : Kernel) (i : ℕ) : Type 0 where
-  pub runs : Runs e i
+  pub runs : RunsAt e i
   pub tree : e.tree ≡ k.tree
   pub row : (call : Option Call) → call_of (low (slice_index k.spaces.registers 17)) ≡ call
       → called (state_of k) i ≡ settle (state_of e) i (outcome_at (state_of e) i call)
@@ -70,6 +74,10 @@ going_by s i w (Some p) = goes_on s i p w w.number
 
 abbrev pub going_at : State → ℕ → Pending → Outcome
 going_at s i w = going_by s i w (process_at s i)
+
+-- what the pending call of the running process makes as it goes on
+abbrev pub gone_on : Kernel → Pending → After
+gone_on k w = settle (state_of k) (current k) (going_at (state_of k) (current k) w)
 
 -- process i has marked itself, and has its result
 abbrev pub marked_by : State → ℕ → State
@@ -154,18 +162,18 @@ Tries old new i o before after console (Err Device) = IsLost old.tree new.tree �
 Tries old new i o before after console (Err (InitEnded status)) = ⊥
 Tries old new i o before after console (Err Halted) = ⊥
 
--- the same where the bytes go to an output
-abbrev pub TriesTo : {W : Type 0} → (W → Option (List ℕ)) → (W → ℕ) → Kernel → Kernel → W → W → ℕ → Outcome
+-- the same of the running process, where the bytes go to an output
+abbrev pub TriesTo : {W : Type 0} → (W → Option (List ℕ)) → (W → ℕ) → Kernel → Kernel → W → W → Outcome
     → Result Came Halt → Type 0
-TriesTo contents failures old new from to i o result =
-    Tries old new i o (contents from) (contents to) (Rises (failures from) (failures to)) result
+TriesTo contents failures old new from to o result =
+    Tries old new (current old) o (contents from) (contents to) (Rises (failures from) (failures to)) result
 
-abbrev pub CallTries : {W : Type 0} → (W → Option (List ℕ)) → (W → ℕ) → Kernel → Kernel → W → W → ℕ → Option Call
+abbrev pub CallTries : {W : Type 0} → (W → Option (List ℕ)) → (W → ℕ) → Kernel → Kernel → W → W → Option Call
     → Result Came Halt → Type 0
-CallTries contents failures old new from to i call result =
-    TriesTo contents failures old new from to i (outcome_at (state_of old) i call) result
+CallTries contents failures old new from to call result =
+    TriesTo contents failures old new from to (outcome_at (state_of old) (current old) call) result
 
-abbrev pub PendingTries : {W : Type 0} → (W → Option (List ℕ)) → (W → ℕ) → Kernel → Kernel → W → W → ℕ → Pending
+abbrev pub PendingTries : {W : Type 0} → (W → Option (List ℕ)) → (W → ℕ) → Kernel → Kernel → W → W → Pending
     → Result Came Halt → Type 0
-PendingTries contents failures old new from to i w result =
-    TriesTo contents failures old new from to i (limited (going_at (state_of old) i w)) result
+PendingTries contents failures old new from to w result =
+    TriesTo contents failures old new from to (limited (going_at (state_of old) (current old) w)) result

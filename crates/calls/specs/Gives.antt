@@ -1,9 +1,10 @@
 -- What a step of the kernel returns.
+use Rattle.blockdev.specs.declared.DeviceFault.{DeviceFault}
 use Rattle.console.specs.Output.{AppendsBeginning}
 use Rattle.calls.specs.declared.halt.Halt.{Halt}
 use Rattle.calls.specs.declared.halt.Halt.TheVariants.{Console, Device, Halted, InitEnded}
 use Rattle.kernel.specs.Disk.{IsLost, IsServed}
-use Rattle.kernel.specs.Kernel.{Kernel, state_of}
+use Rattle.kernel.specs.Kernel.{Kernel, current, state_of}
 use Rattle.std.specs.Io.KnownBytes.{Appends}
 use Rattle.std.specs.Prelude.{Err, List, None, Ok, Option, Result, Some, [], ℕ, ℤ, ◌≡◌}
 use Rattle.tree.specs.Tree.{FileTree}
@@ -38,6 +39,11 @@ abbrev pub halt_of : Option ℤ → Result (Unit {0}) Halt
 halt_of None = Ok tt
 halt_of (Some status) = Err (InitEnded status)
 
+-- the same, after a part of the step that returned this
+abbrev pub halt_after : Result (Unit {0}) DeviceFault → Option ℤ → Result (Unit {0}) Halt
+halt_after (Ok done) halted = halt_of halted
+halt_after (Err fault) halted = Err Device
+
 -- what a step that makes `a` returns; rising: the console's count of failures rose
 abbrev pub EventGives : Kernel → After → Option (List ℕ) → Option (List ℕ) → Type 0 → Result (Unit {0}) Halt → Type 0
 EventGives new a before after rising (Ok u) = Makes new a before after None
@@ -57,9 +63,9 @@ abbrev pub EventGivesTo : {W : Type 0} → (W → Option (List ℕ)) → (W → 
 EventGivesTo contents failures new from to a result =
     EventGives new a (contents from) (contents to) (Rises (failures from) (failures to)) result
 
--- what the instruction at the pc of the process of a slot makes
-abbrev pub executed : Kernel → ℕ → After
-executed k at = execute_at (state_of k) at (process_at (state_of k) at)
+-- what the instruction at the pc of the running process makes
+abbrev pub executed : Kernel → After
+executed k = execute_at (state_of k) (current k) (process_at (state_of k) (current k))
 
 -- ---- the files of the disk
 

@@ -2,7 +2,7 @@
 use Rattle.std.specs.Prelude.{Bool, Err, List, Ok, Option, Result, Some, if◌then◌else◌, nat_le, nat_lt, not, true, ℕ}
 use Rattle.std.specs.Prelude.{◌&&◌, ◌==◌, ◌||◌, ◌≡◌, ◌≤◌}
 use Rattle.blockdev.specs.declared.DeviceFault.{DeviceFault}
-use Rattle.calls.specs.Acts.{Runs}
+use Rattle.calls.specs.Acts.{RunsAt}
 use Rattle.kernel.specs.Opening.{free_descriptors}
 use Rattle.files.specs.declared.file.OpenFile.{OpenFile}
 use Rattle.files.specs.declared.file.Target.{Target}
@@ -72,7 +72,7 @@ pub record Opens (old new : Kernel) (i : ℕ) (f : unix.OpenFile) (fd : ℕ) : T
   pub free : free_slot (descriptors_at old i) ≡ Some fd
   pub state : (p : Process) → process_at (state_of old) i ≡ Some p
       → state_of new ≡ with_open (state_of old) i p fd place f
-  pub runs : Runs new i
+  pub runs : RunsAt new i
   pub served : IsServed old.tree new.tree
 
 -- ---- a file that is emptied

@@ -3,7 +3,7 @@
 use Rattle.std.specs.Prelude.{Bool, List, Option, Some, is_some, length, option_map, take, ℕ, ◌≡◌}
 use Rattle.std.specs.Prelude.{◌≤◌}
 use Rattle.std.specs.Result.{result_ok}
-use Rattle.calls.specs.Acts.{Runs, going_at, outcome_at}
+use Rattle.calls.specs.Acts.{RunsAt, going_at, outcome_at}
 use Rattle.calls.specs.declared.transfer_calls.Transfer.{Transfer}
 use Rattle.kernel.specs.Kernel.{Kernel, descriptors_at, state_of}
 use Rattle.kernel.specs.Sound.{IsFresh, IsPending, file_named}
@@ -42,7 +42,7 @@ can_transfer end.Write memory address count = is_some (read_bytes memory address
 
 -- process i, which runs, goes on with pending call w on an end, of what is open on t
 pub record Transfers (k : Kernel) (i : ℕ) (end : End) (t : Target) (w : Pending) : Type 0 where
-  pub runs : Runs k i
+  pub runs : RunsAt k i
   pub number : w.number ≡ call_on end
   pub can : IsPending (descriptors_at k i) (view_at k.spaces i).memory w (call_on end)
   pub fresh : IsFresh k.files (descriptors_at k i) w

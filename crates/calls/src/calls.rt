@@ -2,7 +2,7 @@
 ghost use Rattle.std.specs.Prelude.{false, ◌≡◌, ◌≤◌, Some};
 ghost use Rattle.calls.specs.Acts.{CallTries, IsBegun, Runs, called};
 ghost use Rattle.calls.specs.Gives.{DispatchesTo, LeavesTree};
-ghost use Rattle.kernel.specs.Kernel.{state_of};
+ghost use Rattle.kernel.specs.Kernel.{HasCurrent, current, state_of};
 ghost use Rattle.unixmodel.specs.Calls.{call_of};
 
 use crate::descriptor_calls::{close, dup, pipe};
@@ -52,10 +52,10 @@ fn call_of(number: u32) -> Option<Call>
 }
 
 /// The running process begins its call: the pc advances by 4.
-pub(crate) fn begin<D: BlockDev, T: Translate>(kernel: &mut Kernel<D, T>, at: usize)
-    requires running { kernel.old.spaces.active ≡ Some at }
+pub(crate) fn begin<D: BlockDev, T: Translate>(kernel: &mut Kernel<D, T>)
+    requires running { HasCurrent kernel.old }
     requires up { kernel.old.tree.failed ≡ false }
-    ensures { IsBegun kernel.old kernel.new at }
+    ensures { IsBegun kernel.old kernel.new (current kernel.old) }
 {
     kernel.is_sound();
     kernel.enter();
@@ -65,39 +65,38 @@ pub(crate) fn begin<D: BlockDev, T: Translate>(kernel: &mut Kernel<D, T>, at: us
 // `Console`: the device failed, the console did.
 fn act<D: BlockDev, T: Translate, W: Out>(
     kernel: &mut Kernel<D, T>,
-    at: usize,
     call: Option<Call>,
     console: &mut W,
 ) -> Result<Came, Halt>
-    requires { Runs kernel.old at }
-    ensures tries { CallTries W.contents W.failures kernel.old kernel.new console.old console.new at call result }
+    requires { Runs kernel.old }
+    ensures tries { CallTries W.contents W.failures kernel.old kernel.new console.old console.new call result }
     ensures later { W.failures console.old ≤ W.failures console.new }
 {
     let Some(call) = call else {
         return Ok(Came::Refuses);
     };
     let came = match call {
-        Call::Fork => Ok(fork(kernel, at)),
-        Call::Exit => Ok(exit(kernel, at)),
-        Call::Wait => Ok(wait(kernel, at)),
-        Call::Pipe => Ok(pipe(kernel, at)),
-        Call::Read => read(kernel, at),
-        Call::Kill => Ok(kill(kernel, at)),
-        Call::Exec => exec(kernel, at),
-        Call::Fstat => fstat(kernel, at),
-        Call::Chdir => chdir(kernel, at),
-        Call::Dup => Ok(dup(kernel, at)),
-        Call::Getpid => Ok(getpid(kernel, at)),
-        Call::Sbrk => Ok(sbrk(kernel, at)),
-        Call::Sleep => Ok(sleep(kernel, at)),
-        Call::Uptime => Ok(uptime(kernel, at)),
-        Call::Open => open(kernel, at),
-        Call::Write => return write(kernel, at, console),
-        Call::Mknod => mknod(kernel, at),
-        Call::Unlink => unlink(kernel, at),
-        Call::Link => link(kernel, at),
-        Call::Mkdir => mkdir(kernel, at),
-        Call::Close => close(kernel, at),
+        Call::Fork => Ok(fork(kernel)),
+        Call::Exit => Ok(exit(kernel)),
+        Call::Wait => Ok(wait(kernel)),
+        Call::Pipe => Ok(pipe(kernel)),
+        Call::Read => read(kernel),
+        Call::Kill => Ok(kill(kernel)),
+        Call::Exec => exec(kernel),
+        Call::Fstat => fstat(kernel),
+        Call::Chdir => chdir(kernel),
+        Call::Dup => Ok(dup(kernel)),
+        Call::Getpid => Ok(getpid(kernel)),
+        Call::Sbrk => Ok(sbrk(kernel)),
+        Call::Sleep => Ok(sleep(kernel)),
+        Call::Uptime => Ok(uptime(kernel)),
+        Call::Open => open(kernel),
+        Call::Write => return write(kernel, console),
+        Call::Mknod => mknod(kernel),
+        Call::Unlink => unlink(kernel),
+        Call::Link => link(kernel),
+        Call::Mkdir => mkdir(kernel),
+        Call::Close => close(kernel),
     };
     Ok(came?)
 }
@@ -106,18 +105,17 @@ fn act<D: BlockDev, T: Translate, W: Out>(
 #[inline(never)]
 pub fn call<D: BlockDev, T: Translate, W: Out>(
     kernel: &mut Kernel<D, T>,
-    at: usize,
     console: &mut W,
 ) -> Result<(), Halt>
-    requires running { kernel.old.spaces.active ≡ Some at }
+    requires running { HasCurrent kernel.old }
     requires up { kernel.old.tree.failed ≡ false }
     ensures gives { DispatchesTo W.contents W.failures kernel.new console.old console.new
-        (called (state_of kernel.old) at) result }
+        (called (state_of kernel.old) (current kernel.old)) result }
     ensures tree { LeavesTree kernel.old.tree kernel.new.tree result }
     ensures later { W.failures console.old ≤ W.failures console.new }
 {
     let call = call_of(low(kernel.argument(7)));
-    begin(kernel, at);
-    let came = act(kernel, at, call, console)?;
-    Ok(settle(kernel, at, came)?)
+    begin(kernel);
+    let came = act(kernel, call, console)?;
+    Ok(settle(kernel, came)?)
 }

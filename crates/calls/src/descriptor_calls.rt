@@ -1,7 +1,7 @@
 //! The calls on descriptors: dup, close, pipe.
 ghost use Rattle.std.specs.Prelude.{◌≡◌, ◌<◌, ◌++◌, IfSome, Some};
 ghost use Rattle.calls.specs.Acts.{Acts, Runs};
-ghost use Rattle.kernel.specs.Kernel.{descriptors_at};
+ghost use Rattle.kernel.specs.Kernel.{current, current_descriptors};
 ghost use Rattle.calls.specs.Acts.{ActsOnDisk};
 ghost use Rattle.files.specs.Places.{free_count};
 ghost use Rattle.unixmodel.specs.Files.{free_slot};
@@ -23,26 +23,26 @@ fn ints(first: usize, second: usize) -> [u8; 8]
     [first as u8, 0, 0, 0, second as u8, 0, 0, 0]
 }
 
-// The lowest free descriptor of the process in a slot.
-fn free_descriptor<D: BlockDev, T: Translate>(kernel: &Kernel<D, T>, at: usize) -> Option<usize>
-    ensures place { result ≡ free_slot (descriptors_at kernel.now at) }
+// The lowest free descriptor of the running process.
+fn free_descriptor<D: BlockDev, T: Translate>(kernel: &Kernel<D, T>) -> Option<usize>
+    ensures place { result ≡ free_slot (current_descriptors kernel.now) }
     ensures within { IfSome result (λ free. free < 16) }
 {
-    descriptors::free_descriptor(&kernel.process(at)?.descriptors)
+    descriptors::free_descriptor(&kernel.process(kernel.current())?.descriptors)
 }
 
 /// dup(descriptor): the lowest free descriptor names the same open file, and is the result.
-pub(crate) fn dup<D: BlockDev, T: Translate>(kernel: &mut Kernel<D, T>, at: usize) -> Came
-    requires { Runs kernel.old at }
-    ensures { Acts kernel.old kernel.new at (Some Call.Dup) result }
+pub(crate) fn dup<D: BlockDev, T: Translate>(kernel: &mut Kernel<D, T>) -> Came
+    requires { Runs kernel.old }
+    ensures { Acts kernel.old kernel.new (current kernel.old) (Some Call.Dup) result }
 {
-    let Some(id) = kernel.open_id(at, low(kernel.argument(0))) else {
+    let Some(id) = kernel.open_id(low(kernel.argument(0))) else {
         return Came::Refuses;
     };
-    let Some(free) = free_descriptor(kernel, at) else {
+    let Some(free) = free_descriptor(kernel) else {
         return Came::Refuses;
     };
-    kernel.dup(at, free, id);
+    kernel.dup(free, id);
     kernel.is_sound();
     Came::Answers(free as u64)
 }
@@ -51,30 +51,29 @@ pub(crate) fn dup<D: BlockDev, T: Translate>(kernel: &mut Kernel<D, T>, at: usiz
 /// that nobody holds any more.
 pub(crate) fn close<D: BlockDev, T: Translate>(
     kernel: &mut Kernel<D, T>,
-    at: usize,
 ) -> Result<Came, DeviceFault>
-    requires { Runs kernel.old at }
-    ensures { ActsOnDisk kernel.old kernel.new at (Some Call.Close) result }
+    requires { Runs kernel.old }
+    ensures { ActsOnDisk kernel.old kernel.new (current kernel.old) (Some Call.Close) result }
 {
     let descriptor = low(kernel.argument(0));
-    let Some(id) = kernel.open_id(at, descriptor) else {
+    let Some(id) = kernel.open_id(descriptor) else {
         return Ok(Came::Refuses);
     };
-    kernel.close(at, descriptor as usize, id)?;
+    kernel.close(descriptor as usize, id)?;
     kernel.is_sound();
     Ok(Came::Answers(0))
 }
 
 /// pipe(address): a new pipe, whose ends the two lowest free descriptors name; they are written at the address.
-pub(crate) fn pipe<D: BlockDev, T: Translate>(kernel: &mut Kernel<D, T>, at: usize) -> Came
-    requires { Runs kernel.old at }
-    ensures { Acts kernel.old kernel.new at (Some Call.Pipe) result }
+pub(crate) fn pipe<D: BlockDev, T: Translate>(kernel: &mut Kernel<D, T>) -> Came
+    requires { Runs kernel.old }
+    ensures { Acts kernel.old kernel.new (current kernel.old) (Some Call.Pipe) result }
 {
     let address = kernel.argument(0);
-    if !kernel.can_write(at, address, 8) {
+    if !kernel.can_write(address, 8) {
         return Came::Refuses;
     }
-    let Some(process) = kernel.process(at) else {
+    let Some(process) = kernel.process(kernel.current()) else {
         return Came::Refuses;
     };
     if descriptors::free_count(&process.descriptors) < 2 || kernel.free_places() < 2 {
@@ -83,10 +82,10 @@ pub(crate) fn pipe<D: BlockDev, T: Translate>(kernel: &mut Kernel<D, T>, at: usi
     let Some(pipe) = kernel.free_pipe() else {
         return Came::Refuses;
     };
-    let Some((reader, writer)) = kernel.open_pipe(at, pipe) else {
+    let Some((reader, writer)) = kernel.open_pipe(pipe) else {
         return Came::Refuses;
     };
-    kernel.write(at, address, &ints(reader, writer));
+    kernel.write(address, &ints(reader, writer));
     kernel.is_sound();
     Came::Answers(0)
 }

@@ -3,14 +3,13 @@
 //! What seldom happens is kept out of line (`inline(never)`), so that the code of a step that only does an
 //! instruction stays small.
 ghost use Rattle.std.specs.Prelude.{false, ◌≡◌, ◌≤◌, Err, Some, None, IfErr, OnErr, OnOk};
-ghost use Rattle.calls.specs.Acts.{CanWait, GoesOn, Runs};
+ghost use Rattle.calls.specs.Acts.{CanWait, GoesOn, Runs, gone_on};
 ghost use Rattle.calls.specs.declared.halt.Halt.TheVariants.{Console};
 ghost use Rattle.calls.specs.Gives.{DispatchesTo, EventGivesTo, LeavesTree, executed, halt_of};
 ghost use Rattle.kernel.specs.Disk.{LeavesDisk};
-ghost use Rattle.kernel.specs.Kernel.{state_of};
+ghost use Rattle.kernel.specs.Kernel.{HasCurrent, current, current_space, state_of};
 ghost use Rattle.kernel.specs.Sound.{IsAlive};
-ghost use Rattle.calls.specs.Resuming.{WaitsIn, resumed, taken};
-ghost use Rattle.spaces.specs.Spaces.{view_at};
+ghost use Rattle.calls.specs.Resuming.{taken};
 ghost use Rattle.unixmodel.specs.Calls.{quiet};
 ghost use Rattle.unixmodel.specs.Cycle.{cycle};
 ghost use Rattle.unixmodel.specs.declared.call.Call.TheVariants as Call;
@@ -95,7 +94,7 @@ pub fn step<D: BlockDev, T: Translate, W: Out>(
 {
     kernel.is_sound();
     match kernel.active() {
-        Some(at) => instruct(kernel, at, console)?,
+        Some(_) => instruct(kernel, console)?,
         None => take_turn(kernel)?,
     }
     goes(kernel)
@@ -114,41 +113,40 @@ pub(crate) fn goes<D: BlockDev, T: Translate>(kernel: &Kernel<D, T>) -> Result<(
 // The running process does an instruction, and the call or the end that it traps into.
 fn instruct<D: BlockDev, T: Translate, W: Out>(
     kernel: &mut Kernel<D, T>,
-    at: usize,
     console: &mut W,
 ) -> Result<(), Halt>
-    requires { Runs kernel.old at }
-    ensures gives { DispatchesTo W.contents W.failures kernel.new console.old console.new (executed kernel.old at)
+    requires { Runs kernel.old }
+    ensures gives { DispatchesTo W.contents W.failures kernel.new console.old console.new (executed kernel.old)
         result }
     ensures tree { LeavesTree kernel.old.tree kernel.new.tree result }
     ensures later { W.failures console.old ≤ W.failures console.new }
 {
-    match kernel.execute(at) {
+    match kernel.execute() {
         None => Ok(()),
-        Some(trap) => take_trap(kernel, at, trap, console),
+        Some(trap) => take_trap(kernel, trap, console),
     }
 }
 
 // The call or the end that the running process traps into.
 pub(crate) fn take_trap<D: BlockDev, T: Translate, W: Out>(
     kernel: &mut Kernel<D, T>,
-    at: usize,
     trap: Trap,
     console: &mut W,
 ) -> Result<(), Halt>
-    requires running { kernel.old.spaces.active ≡ Some at }
+    requires running { HasCurrent kernel.old }
     requires up { kernel.old.tree.failed ≡ false }
-    requires traps { cycle kernel.old.spaces.registers kernel.old.spaces.pc (view_at kernel.old.spaces at).memory
+    requires traps { cycle kernel.old.spaces.registers kernel.old.spaces.pc (current_space kernel.old).memory
         ≡ Err trap }
-    ensures gives { DispatchesTo W.contents W.failures kernel.new console.old console.new (executed kernel.old at)
+    ensures gives { DispatchesTo W.contents W.failures kernel.new console.old console.new (executed kernel.old)
         result }
     ensures tree { LeavesTree kernel.old.tree kernel.new.tree result }
     ensures later { W.failures console.old ≤ W.failures console.new }
 {
     kernel.is_sound();
     if is_call(trap.cause) {
-        return calls::call(kernel, at, console);
+        return calls::call(kernel, console);
     }
+    let at = kernel.current();
     Ok(kernel.finish(at, KILLED)?)
 }
 
@@ -191,40 +189,39 @@ pub(crate) fn take<D: BlockDev, T: Translate>(
             kernel.start(at);
             Ok(())
         }
-        Mode::Waiting(pending) => go_on(kernel, at, pending),
+        Mode::Waiting(pending) => {
+            kernel.start(at);
+            go_on(kernel, pending)
+        }
         Mode::Running | Mode::Zombie(_) => Ok(()),
     }
 }
 
-// The process in a slot, where none runs, goes on with its pending call.
+// The running process goes on with its pending call.
 fn go_on<D: BlockDev, T: Translate>(
     kernel: &mut Kernel<D, T>,
-    at: usize,
     pending: Pending,
 ) -> Result<(), DeviceFault>
-    requires idle { kernel.old.spaces.active ≡ None }
-    requires up { kernel.old.tree.failed ≡ false }
-    requires waits { WaitsIn (slot kernel.old.table.places at) pending }
-    ensures gives { OnOk result (resumed (state_of kernel.old) at ≡ quiet (state_of kernel.new)) }
+    requires runs { Runs kernel.old }
+    requires can { CanWait kernel.old (current kernel.old) pending }
+    ensures gives { OnOk result (gone_on kernel.old pending ≡ quiet (state_of kernel.new)) }
     ensures tree { LeavesDisk kernel.old.tree kernel.new.tree result }
 {
-    kernel.is_sound();
-    kernel.start(at);
-    let came = act_on(kernel, at, pending);
-    settle(kernel, at, came)
+    let came = act_on(kernel, pending);
+    settle(kernel, came)
 }
 
 // Goes on with a pending call of the running process.
-fn act_on<D: BlockDev, T: Translate>(kernel: &mut Kernel<D, T>, at: usize, pending: Pending) -> Came
-    requires runs { Runs kernel.old at }
-    requires can { CanWait kernel.old at pending }
-    ensures { GoesOn kernel.old kernel.new at pending result }
+fn act_on<D: BlockDev, T: Translate>(kernel: &mut Kernel<D, T>, pending: Pending) -> Came
+    requires runs { Runs kernel.old }
+    requires can { CanWait kernel.old (current kernel.old) pending }
+    ensures { GoesOn kernel.old kernel.new (current kernel.old) pending result }
 {
     match pending.number {
-        Call::Wait => wait_on(kernel, at, pending),
-        Call::Read => read_on(kernel, at, pending),
-        Call::Write => write_on(kernel, at, pending),
-        Call::Sleep => sleep_on(kernel, at, pending),
+        Call::Wait => wait_on(kernel, pending),
+        Call::Read => read_on(kernel, pending),
+        Call::Write => write_on(kernel, pending),
+        Call::Sleep => sleep_on(kernel, pending),
         _ => unreachable!(),
     }
 }

@@ -1,5 +1,6 @@
 //! exec: another program replaces the one that runs.
 ghost use Rattle.std.specs.Prelude.{◌≡◌, Some};
+ghost use Rattle.kernel.specs.Kernel.{current};
 ghost use Rattle.calls.specs.Acts.{ActsOnDisk, Runs};
 ghost use Rattle.calls.specs.Replaced.{Reaches};
 ghost use Rattle.unixmodel.specs.declared.call.Call.TheVariants as Call;
@@ -14,15 +15,14 @@ use unixmodel::call::Call;
 // exec of the file that its path reaches.
 fn exec_found<D: BlockDev, T: Translate>(
     kernel: &mut Kernel<D, T>,
-    at: usize,
     number: usize,
 ) -> Result<Came, DeviceFault>
-    requires runs { Runs kernel.old at }
-    requires reaches { Reaches kernel.old at number }
-    ensures { ActsOnDisk kernel.old kernel.new at (Some Call.Exec) result }
+    requires runs { Runs kernel.old }
+    requires reaches { Reaches kernel.old (current kernel.old) number }
+    ensures { ActsOnDisk kernel.old kernel.new (current kernel.old) (Some Call.Exec) result }
 {
     let argv = kernel.argument(1);
-    let replaced = kernel.replace(at, number, argv)?;
+    let replaced = kernel.replace(number, argv)?;
     match replaced {
         Some(started) => {
             kernel.is_sound();
@@ -36,17 +36,16 @@ fn exec_found<D: BlockDev, T: Translate>(
 /// arguments that argv points at.
 pub(crate) fn exec<D: BlockDev, T: Translate>(
     kernel: &mut Kernel<D, T>,
-    at: usize,
 ) -> Result<Came, DeviceFault>
-    requires { Runs kernel.old at }
-    ensures { ActsOnDisk kernel.old kernel.new at (Some Call.Exec) result }
+    requires { Runs kernel.old }
+    ensures { ActsOnDisk kernel.old kernel.new (current kernel.old) (Some Call.Exec) result }
 {
     let mut buffer = [0; 127];
-    let Some(count) = copy_path(kernel, at, 0, &mut buffer) else {
+    let Some(count) = copy_path(kernel, 0, &mut buffer) else {
         return Ok(Came::Refuses);
     };
-    let Some(number) = kernel.resolve(at, &buffer[..count])? else {
+    let Some(number) = kernel.resolve(&buffer[..count])? else {
         return Ok(Came::Refuses);
     };
-    exec_found(kernel, at, number)
+    exec_found(kernel, number)
 }

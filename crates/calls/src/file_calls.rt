@@ -1,5 +1,6 @@
 //! The calls on what a descriptor is open on: fstat.
 ghost use Rattle.std.specs.Prelude.{◌≡◌, Some};
+ghost use Rattle.kernel.specs.Kernel.{current};
 ghost use Rattle.calls.specs.Acts.{ActsOnDisk, Runs};
 ghost use Rattle.calls.specs.Reads.{stat_told};
 ghost use Rattle.unixmodel.specs.declared.call.Call.TheVariants as Call;
@@ -28,23 +29,22 @@ fn stat_bytes(number: u32, told: InodeStat) -> [u8; 24]
 /// fstat(descriptor, address): the attributes of the node that the descriptor is open on are written at the address.
 pub(crate) fn fstat<D: BlockDev, T: Translate>(
     kernel: &mut Kernel<D, T>,
-    at: usize,
 ) -> Result<Came, DeviceFault>
-    requires { Runs kernel.old at }
-    ensures { ActsOnDisk kernel.old kernel.new at (Some Call.Fstat) result }
+    requires { Runs kernel.old }
+    ensures { ActsOnDisk kernel.old kernel.new (current kernel.old) (Some Call.Fstat) result }
 {
-    let Some(id) = kernel.open_id(at, low(kernel.argument(0))) else {
+    let Some(id) = kernel.open_id(low(kernel.argument(0))) else {
         return Ok(Came::Refuses);
     };
     let Ok(number) = kernel.node_of(usize::from(id)) else {
         return Ok(Came::Refuses);
     };
     let address = kernel.argument(1);
-    if !kernel.can_write(at, address, 24) {
+    if !kernel.can_write(address, 24) {
         return Ok(Came::Refuses);
     }
     let told = kernel.stat(number as usize)?;
-    kernel.write(at, address, &stat_bytes(number, told));
+    kernel.write(address, &stat_bytes(number, told));
     kernel.is_sound();
     Ok(Came::Answers(0))
 }

@@ -3,18 +3,14 @@
 //! They are done in pieces: instructions of the running process up to a call or a fault, or a turn.
 ghost use Rattle.std.specs.Prelude.{ℕ, List, Option, ◌≡◌, ◌<◌, ◌≤◌, Err, None, Some, false};
 ghost use Rattle.calls.specs.Computing.{Computes};
-ghost use Rattle.calls.specs.Gives.{EventGives, EventGivesTo, LeavesTree, executed};
-ghost use Rattle.calls.specs.Resuming.{taken};
+ghost use Rattle.calls.specs.Gives.{EventGivesTo, LeavesTree, executed, halt_after};
 ghost use Rattle.calls.specs.Steps.{LeavesFiles, PieceGives, PieceGivesTo, StepsGiveTo};
-ghost use Rattle.kernel.specs.Kernel.{state_of};
-ghost use Rattle.kernel.specs.Sound.{IsAlive};
-ghost use Rattle.spaces.specs.Spaces.{view_at};
+ghost use Rattle.kernel.specs.Kernel.{HasCurrent, current_space, state_of};
 ghost use Rattle.unixmodel.specs.Cycle.{cycle};
-ghost use Rattle.unixmodel.specs.Files.{slot};
 
 use crate::events::{goes, take, take_trap};
 use crate::halt::Halt;
-use blockdev::BlockDev;
+use blockdev::{BlockDev, DeviceFault};
 use console::Out;
 use hart::{Breakpoints, NoStops};
 use kernel::Kernel;
@@ -61,7 +57,7 @@ pub fn advance<D: BlockDev, T: Translate, W: Out>(
     ensures later { W.failures console.old ≤ W.failures console.new }
 {
     match kernel.active() {
-        Some(at) => instruct_many(kernel, at, most, console),
+        Some(_) => instruct_many(kernel, most, console),
         None => turn_once(kernel),
     }
 }
@@ -80,18 +76,17 @@ pub fn compute<D: BlockDev, T: Translate>(
     kernel.is_sound();
     match kernel.active() {
         None => 0,
-        Some(at) => kernel.execute_many(at, most, &Breakpoints { addresses }).0,
+        Some(_) => kernel.execute_many(most, &Breakpoints { addresses }).0,
     }
 }
 
 // Instructions of the running process up to the first that traps, with the call or the end that it traps into.
 fn instruct_many<D: BlockDev, T: Translate, W: Out>(
     kernel: &mut Kernel<D, T>,
-    at: usize,
     most: u32,
     console: &mut W,
 ) -> (u32, Result<(), Halt>)
-    requires running { kernel.old.spaces.active ≡ Some at }
+    requires running { HasCurrent kernel.old }
     requires goes { kernel.old.halted ≡ None }
     requires up { kernel.old.tree.failed ≡ false }
     requires some { 0 < most }
@@ -100,29 +95,28 @@ fn instruct_many<D: BlockDev, T: Translate, W: Out>(
     ensures later { W.failures console.old ≤ W.failures console.new }
 {
     kernel.is_sound();
-    match kernel.execute_many(at, most, &NoStops) {
+    match kernel.execute_many(most, &NoStops) {
         (done, None) => (done, Ok(())),
-        (done, Some(trap)) => (done + 1, trap_once(kernel, at, trap, console)),
+        (done, Some(trap)) => (done + 1, trap_once(kernel, trap, console)),
     }
 }
 
 // The step at which the running process traps.
 fn trap_once<D: BlockDev, T: Translate, W: Out>(
     kernel: &mut Kernel<D, T>,
-    at: usize,
     trap: Trap,
     console: &mut W,
 ) -> Result<(), Halt>
-    requires running { kernel.old.spaces.active ≡ Some at }
+    requires running { HasCurrent kernel.old }
     requires up { kernel.old.tree.failed ≡ false }
-    requires traps { cycle kernel.old.spaces.registers kernel.old.spaces.pc (view_at kernel.old.spaces at).memory
+    requires traps { cycle kernel.old.spaces.registers kernel.old.spaces.pc (current_space kernel.old).memory
         ≡ Err trap }
-    ensures does { EventGivesTo W.contents W.failures kernel.new console.old console.new (executed kernel.old at)
+    ensures does { EventGivesTo W.contents W.failures kernel.new console.old console.new (executed kernel.old)
         result }
     ensures tree { LeavesTree kernel.old.tree kernel.new.tree result }
     ensures later { W.failures console.old ≤ W.failures console.new }
 {
-    take_trap(kernel, at, trap, console)?;
+    take_trap(kernel, trap, console)?;
     goes(kernel)
 }
 
@@ -138,19 +132,20 @@ fn turn_once<D: BlockDev, T: Translate>(kernel: &mut Kernel<D, T>) -> (u32, Resu
     kernel.is_sound();
     match kernel.turn() {
         None => (0, Ok(())),
-        Some(at) => (1, take_once(kernel, at)),
+        Some(at) => {
+            let taken = take(kernel, at);
+            (1, halt_after(kernel, taken))
+        }
     }
 }
 
-// The step at which the process in a slot, which was picked, is taken.
-fn take_once<D: BlockDev, T: Translate>(kernel: &mut Kernel<D, T>, at: usize) -> Result<(), Halt>
-    requires idle { kernel.old.spaces.active ≡ None }
-    requires up { kernel.old.tree.failed ≡ false }
-    requires alive { IsAlive (slot kernel.old.table.places at) }
-    ensures gives { (bytes : Option (List ℕ))
-        → EventGives kernel.new (taken (state_of kernel.old) at) bytes bytes ⊥ result }
-    ensures tree { LeavesTree kernel.old.tree kernel.new.tree result }
+// The result of the step of a turn, by how the process that was picked was taken.
+fn halt_after<D: BlockDev, T: Translate>(
+    kernel: &Kernel<D, T>,
+    taken: Result<(), DeviceFault>,
+) -> Result<(), Halt>
+    ensures { result ≡ halt_after taken kernel.now.halted }
 {
-    take(kernel, at)?;
+    taken?;
     goes(kernel)
 }

@@ -1,5 +1,6 @@
 //! The calls on names: mknod, mkdir, link, unlink.
 ghost use Rattle.std.specs.Prelude.{◌≡◌, ◌≢◌, ◌≤◌, ◌<◌, All, IfSome, Some, take};
+ghost use Rattle.kernel.specs.Kernel.{HasCurrent, current};
 ghost use Rattle.calls.specs.Acts.{ActsOnDisk, Runs};
 ghost use Rattle.calls.specs.Named.{IsNamed, IsRefused};
 ghost use Rattle.kernel.specs.Sound.{IsKernel};
@@ -18,17 +19,16 @@ use unixmodel::call::Call;
 // Copies the path in an argument of the call into a buffer, and returns its length.
 pub(crate) fn copy_path<D: BlockDev, T: Translate>(
     kernel: &Kernel<D, T>,
-    at: usize,
     place: usize,
     buffer: &mut [u8; 127],
 ) -> Option<usize>
-    requires active { kernel.now.spaces.active ≡ Some at }
+    requires active { HasCurrent kernel.now }
     requires place { place < 8 }
-    ensures path { string_in buffer.new result ≡ path_argument kernel.now at place }
+    ensures path { string_in buffer.new result ≡ path_argument kernel.now (current kernel.now) place }
     ensures within { IfSome result (λ n. n ≤ 127) }
     ensures bytes { IfSome result (λ n. All (λ b. b ≢ 0) (take n buffer.new)) }
 {
-    kernel.copy_path(at, kernel.argument(place), buffer)
+    kernel.copy_path(kernel.argument(place), buffer)
 }
 
 // The result of a call that made nothing.
@@ -61,71 +61,67 @@ fn named<D: BlockDev, T: Translate, X>(
 /// bits.
 pub(crate) fn mknod<D: BlockDev, T: Translate>(
     kernel: &mut Kernel<D, T>,
-    at: usize,
 ) -> Result<Came, DeviceFault>
-    requires { Runs kernel.old at }
-    ensures { ActsOnDisk kernel.old kernel.new at (Some Call.Mknod) result }
+    requires { Runs kernel.old }
+    ensures { ActsOnDisk kernel.old kernel.new (current kernel.old) (Some Call.Mknod) result }
 {
     let mut buffer = [0; 127];
-    let Some(count) = copy_path(kernel, at, 0, &mut buffer) else {
+    let Some(count) = copy_path(kernel, 0, &mut buffer) else {
         return Ok(Came::Refuses);
     };
     let leaf = Leaf::Device {
         major: (kernel.argument(1) % 0x1_0000) as u16,
         minor: (kernel.argument(2) % 0x1_0000) as u16,
     };
-    let made = kernel.create(at, &buffer[..count], leaf);
+    let made = kernel.create(&buffer[..count], leaf);
     named(kernel, &made)
 }
 
 /// mkdir(path): a directory with the lowest free number, and a name for it.
 pub(crate) fn mkdir<D: BlockDev, T: Translate>(
     kernel: &mut Kernel<D, T>,
-    at: usize,
 ) -> Result<Came, DeviceFault>
-    requires { Runs kernel.old at }
-    ensures { ActsOnDisk kernel.old kernel.new at (Some Call.Mkdir) result }
+    requires { Runs kernel.old }
+    ensures { ActsOnDisk kernel.old kernel.new (current kernel.old) (Some Call.Mkdir) result }
 {
     let mut buffer = [0; 127];
-    let Some(count) = copy_path(kernel, at, 0, &mut buffer) else {
+    let Some(count) = copy_path(kernel, 0, &mut buffer) else {
         return Ok(Came::Refuses);
     };
-    let made = kernel.create_directory(at, &buffer[..count]);
+    let made = kernel.create_directory(&buffer[..count]);
     named(kernel, &made)
 }
 
 /// link(old, new): another name for a file or a device.
 pub(crate) fn link<D: BlockDev, T: Translate>(
     kernel: &mut Kernel<D, T>,
-    at: usize,
 ) -> Result<Came, DeviceFault>
-    requires { Runs kernel.old at }
-    ensures { ActsOnDisk kernel.old kernel.new at (Some Call.Link) result }
+    requires { Runs kernel.old }
+    ensures { ActsOnDisk kernel.old kernel.new (current kernel.old) (Some Call.Link) result }
 {
     let mut old = [0; 127];
-    let Some(old_count) = copy_path(kernel, at, 0, &mut old) else {
+    let Some(old_count) = copy_path(kernel, 0, &mut old) else {
         return Ok(Came::Refuses);
     };
     let mut new = [0; 127];
-    let Some(new_count) = copy_path(kernel, at, 1, &mut new) else {
+    let Some(new_count) = copy_path(kernel, 1, &mut new) else {
         return Ok(Came::Refuses);
     };
-    let made = kernel.link(at, &old[..old_count], &new[..new_count]);
+    let made = kernel.link(&old[..old_count], &new[..new_count]);
     named(kernel, &made)
 }
 
 /// unlink(path): a name is removed, and its node too where that has no links any more and nobody holds it.
 pub(crate) fn unlink<D: BlockDev, T: Translate>(
     kernel: &mut Kernel<D, T>,
-    at: usize,
 ) -> Result<Came, DeviceFault>
-    requires { Runs kernel.old at }
-    ensures { ActsOnDisk kernel.old kernel.new at (Some Call.Unlink) result }
+    requires { Runs kernel.old }
+    ensures { ActsOnDisk kernel.old kernel.new (current kernel.old) (Some Call.Unlink) result }
 {
     let mut buffer = [0; 127];
-    let Some(count) = copy_path(kernel, at, 0, &mut buffer) else {
+    let Some(count) = copy_path(kernel, 0, &mut buffer) else {
         return Ok(Came::Refuses);
     };
-    let made = kernel.unlink(at, &buffer[..count]);
+    let made = kernel.unlink(&buffer[..count]);
     named(kernel, &made)
 }

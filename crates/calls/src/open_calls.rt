@@ -1,5 +1,6 @@
 //! The calls that resolve a path: open, chdir.
 ghost use Rattle.std.specs.Prelude.{◌≡◌, ◌≢◌, All, List, None, Some, false, true, ℕ};
+ghost use Rattle.kernel.specs.Kernel.{current};
 ghost use Rattle.calls.specs.Acts.{ActsOnDisk, Runs};
 ghost use Rattle.calls.specs.Opened.{Asks, Cuts, IsOpenable, Opens, file_by, has_seat, may_open_by, target_by};
 ghost use Rattle.calls.specs.Replaced.{Reaches};
@@ -79,11 +80,11 @@ fn opened(flags: u32, target: Target) -> OpenFile
     }
 }
 
-// Whether a descriptor of the process in a slot and a slot for an open file are free.
-fn has_seat<D: BlockDev, T: Translate>(kernel: &Kernel<D, T>, at: usize) -> bool
-    ensures { result ≡ has_seat kernel.now at }
+// Whether a descriptor of the running process and a slot for an open file are free.
+fn has_seat<D: BlockDev, T: Translate>(kernel: &Kernel<D, T>) -> bool
+    ensures { result ≡ has_seat kernel.now (current kernel.now) }
 {
-    match kernel.process(at) {
+    match kernel.process(kernel.current()) {
         Some(process) => descriptors::free_count(&process.descriptors) > 0
             && kernel.free_places() > 0,
         None => false,
@@ -93,19 +94,18 @@ fn has_seat<D: BlockDev, T: Translate>(kernel: &Kernel<D, T>, at: usize) -> bool
 // Opens a node as a new open file, which the lowest free descriptor names.
 fn open_on<D: BlockDev, T: Translate>(
     kernel: &mut Kernel<D, T>,
-    at: usize,
     node: usize,
     flags: u32,
     told: InodeStat,
 ) -> usize
-    requires runs { Runs kernel.old at }
-    requires seat { has_seat kernel.old at ≡ true }
+    requires runs { Runs kernel.old }
+    requires seat { has_seat kernel.old (current kernel.old) ≡ true }
     requires may { IsOpenable kernel.old.tree.files node flags told }
-    ensures { Opens kernel.old kernel.new at (opened flags node) result }
+    ensures { Opens kernel.old kernel.new (current kernel.old) (opened flags node) result }
 {
     kernel.files_are_whole();
     let file = opened(flags, target(node as u32, told));
-    let descriptor = kernel.open_on(at, node, file);
+    let descriptor = kernel.open_on(node, file);
     kernel.is_sound();
     descriptor
 }
@@ -130,49 +130,47 @@ fn cut<D: BlockDev, T: Translate>(
 // open of what its path reaches.
 fn open_found<D: BlockDev, T: Translate>(
     kernel: &mut Kernel<D, T>,
-    at: usize,
     number: usize,
     flags: u32,
 ) -> Result<Came, DeviceFault>
-    requires runs { Runs kernel.old at }
-    requires asks { (path : List ℕ) × Asks kernel.old at path flags (Some number) }
-    ensures { ActsOnDisk kernel.old kernel.new at (Some Call.Open) result }
+    requires runs { Runs kernel.old }
+    requires asks { (path : List ℕ) × Asks kernel.old (current kernel.old) path flags (Some number) }
+    ensures { ActsOnDisk kernel.old kernel.new (current kernel.old) (Some Call.Open) result }
 {
     let told = kernel.stat(number)?;
     if !may_open(flags, told) {
         return Ok(Came::Refuses);
     }
-    if !has_seat(kernel, at) {
+    if !has_seat(kernel) {
         return Ok(Came::Refuses);
     }
     cut(kernel, number, flags)?;
-    let descriptor = open_on(kernel, at, number, flags, told);
+    let descriptor = open_on(kernel, number, flags, told);
     Ok(Came::Answers(descriptor as u64))
 }
 
 // open of a path that reaches nothing: makes a new file, if the flags say so.
 fn open_new<D: BlockDev, T: Translate>(
     kernel: &mut Kernel<D, T>,
-    at: usize,
     path: &[u8],
     flags: u32,
 ) -> Result<Came, DeviceFault>
-    requires runs { Runs kernel.old at }
-    requires asks { Asks kernel.old at path.now flags None }
+    requires runs { Runs kernel.old }
+    requires asks { Asks kernel.old (current kernel.old) path.now flags None }
     requires path { All (λ b. b ≢ 0) path.now }
-    ensures { ActsOnDisk kernel.old kernel.new at (Some Call.Open) result }
+    ensures { ActsOnDisk kernel.old kernel.new (current kernel.old) (Some Call.Open) result }
 {
     if !creates(flags) {
         return Ok(Came::Refuses);
     }
-    if !has_seat(kernel, at) {
+    if !has_seat(kernel) {
         return Ok(Came::Refuses);
     }
-    let made = kernel.create(at, path, Leaf::File);
+    let made = kernel.create(path, Leaf::File);
     kernel.is_sound();
     match made {
         Ok(number) => {
-            let descriptor = open_on(kernel, at, number, flags, NEW_FILE);
+            let descriptor = open_on(kernel, number, flags, NEW_FILE);
             Ok(Came::Answers(descriptor as u64))
         }
         Err(fault) => refuse(fault),
@@ -183,19 +181,18 @@ fn open_new<D: BlockDev, T: Translate>(
 /// 9 of the flags makes a file where the path reaches nothing, and bit 10 empties a file.
 pub(crate) fn open<D: BlockDev, T: Translate>(
     kernel: &mut Kernel<D, T>,
-    at: usize,
 ) -> Result<Came, DeviceFault>
-    requires { Runs kernel.old at }
-    ensures { ActsOnDisk kernel.old kernel.new at (Some Call.Open) result }
+    requires { Runs kernel.old }
+    ensures { ActsOnDisk kernel.old kernel.new (current kernel.old) (Some Call.Open) result }
 {
     let mut buffer = [0; 127];
-    let Some(count) = copy_path(kernel, at, 0, &mut buffer) else {
+    let Some(count) = copy_path(kernel, 0, &mut buffer) else {
         return Ok(Came::Refuses);
     };
     let flags = low(kernel.argument(1));
-    match kernel.resolve(at, &buffer[..count])? {
-        Some(number) => open_found(kernel, at, number, flags),
-        None => open_new(kernel, at, &buffer[..count], flags),
+    match kernel.resolve(&buffer[..count])? {
+        Some(number) => open_found(kernel, number, flags),
+        None => open_new(kernel, &buffer[..count], flags),
     }
 }
 
@@ -203,16 +200,15 @@ pub(crate) fn open<D: BlockDev, T: Translate>(
 // nobody holds it any more.
 fn work_in<D: BlockDev, T: Translate>(
     kernel: &mut Kernel<D, T>,
-    at: usize,
     number: usize,
 ) -> Result<Came, DeviceFault>
-    requires runs { Runs kernel.old at }
-    requires reaches { Reaches kernel.old at number }
+    requires runs { Runs kernel.old }
+    requires reaches { Reaches kernel.old (current kernel.old) number }
     requires directory { IsFolder (slot kernel.old.tree.files number) }
-    ensures { ActsOnDisk kernel.old kernel.new at (Some Call.Chdir) result }
+    ensures { ActsOnDisk kernel.old kernel.new (current kernel.old) (Some Call.Chdir) result }
 {
     kernel.files_are_whole();
-    kernel.work_in(at, number)?;
+    kernel.work_in(number)?;
     kernel.is_sound();
     Ok(Came::Answers(0))
 }
@@ -220,34 +216,32 @@ fn work_in<D: BlockDev, T: Translate>(
 // chdir to what its path reaches.
 fn chdir_found<D: BlockDev, T: Translate>(
     kernel: &mut Kernel<D, T>,
-    at: usize,
     number: usize,
 ) -> Result<Came, DeviceFault>
-    requires runs { Runs kernel.old at }
-    requires reaches { Reaches kernel.old at number }
-    ensures { ActsOnDisk kernel.old kernel.new at (Some Call.Chdir) result }
+    requires runs { Runs kernel.old }
+    requires reaches { Reaches kernel.old (current kernel.old) number }
+    ensures { ActsOnDisk kernel.old kernel.new (current kernel.old) (Some Call.Chdir) result }
 {
     if kernel.stat(number)?.kind != DIRECTORY {
         return Ok(Came::Refuses);
     }
-    work_in(kernel, at, number)
+    work_in(kernel, number)
 }
 
 /// chdir(path): the process works in another directory; the one that it leaves goes where it has no links and nobody
 /// holds it any more.
 pub(crate) fn chdir<D: BlockDev, T: Translate>(
     kernel: &mut Kernel<D, T>,
-    at: usize,
 ) -> Result<Came, DeviceFault>
-    requires { Runs kernel.old at }
-    ensures { ActsOnDisk kernel.old kernel.new at (Some Call.Chdir) result }
+    requires { Runs kernel.old }
+    ensures { ActsOnDisk kernel.old kernel.new (current kernel.old) (Some Call.Chdir) result }
 {
     let mut buffer = [0; 127];
-    let Some(count) = copy_path(kernel, at, 0, &mut buffer) else {
+    let Some(count) = copy_path(kernel, 0, &mut buffer) else {
         return Ok(Came::Refuses);
     };
-    let Some(number) = kernel.resolve(at, &buffer[..count])? else {
+    let Some(number) = kernel.resolve(&buffer[..count])? else {
         return Ok(Came::Refuses);
     };
-    chdir_found(kernel, at, number)
+    chdir_found(kernel, number)
 }

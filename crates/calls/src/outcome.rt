@@ -1,8 +1,8 @@
 //! How a call ended, and how that is settled.
-ghost use Rattle.std.specs.Prelude.{false, ◌≡◌, OnErr, OnOk, Some};
+ghost use Rattle.std.specs.Prelude.{false, ◌≡◌, OnErr, OnOk};
 ghost use Rattle.calls.specs.Acts.{CanCome, IsEnd, pending_for, settled_by};
 ghost use Rattle.kernel.specs.Disk.{LeavesDisk};
-ghost use Rattle.kernel.specs.Kernel.{state_of};
+ghost use Rattle.kernel.specs.Kernel.{HasCurrent, current, state_of};
 
 use blockdev::{BlockDev, DeviceFault};
 use kernel::Kernel;
@@ -31,7 +31,7 @@ pub enum Came {
     KillsItself,
 }
 
-/// The call that the process in slot `at` makes, as it begins to wait.
+/// The call that the running process makes, as it begins to wait.
 pub(crate) fn pending<D: BlockDev, T: Translate>(kernel: &Kernel<D, T>, number: Call) -> Pending
     ensures { result ≡ pending_for kernel.now number }
 {
@@ -47,13 +47,12 @@ pub(crate) fn pending<D: BlockDev, T: Translate>(kernel: &Kernel<D, T>, number: 
 #[inline(always)]
 pub(crate) fn settle<D: BlockDev, T: Translate>(
     kernel: &mut Kernel<D, T>,
-    at: usize,
     came: Came,
 ) -> Result<(), DeviceFault>
-    requires running { kernel.old.spaces.active ≡ Some at }
+    requires running { HasCurrent kernel.old }
     requires up { kernel.old.tree.failed ≡ false }
-    requires can { CanCome kernel.old at came }
-    ensures gives { OnOk result (state_of kernel.new ≡ settled_by (state_of kernel.old) at came) }
+    requires can { CanCome kernel.old (current kernel.old) came }
+    ensures gives { OnOk result (state_of kernel.new ≡ settled_by (state_of kernel.old) (current kernel.old) came) }
     ensures fails { OnErr result (IsEnd came) }
     ensures tree { LeavesDisk kernel.old.tree kernel.new.tree result }
 {
@@ -68,11 +67,15 @@ pub(crate) fn settle<D: BlockDev, T: Translate>(
             Ok(())
         }
         Came::Blocks(pending) => {
-            kernel.block(at, pending);
+            kernel.block(pending);
             Ok(())
         }
-        Came::Exits(status) => kernel.finish(at, status),
+        Came::Exits(status) => {
+            let at = kernel.current();
+            kernel.finish(at, status)
+        }
         Came::KillsItself => {
+            let at = kernel.current();
             kernel.answer(0);
             kernel.finish(at, KILLED)?;
             kernel.mark(at);

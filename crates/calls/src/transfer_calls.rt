@@ -5,7 +5,7 @@ ghost use Rattle.std.specs.Io.KnownBytes.{Appends};
 ghost use Rattle.calls.specs.Acts.{Acts, ActsOnDisk, CanWait, GoesOn, GoesOnDisk, Runs, CallTries, PendingTries};
 ghost use Rattle.files.specs.declared.file.Target.TheVariants as target;
 ghost use Rattle.files.specs.Places.{file_at};
-ghost use Rattle.kernel.specs.Kernel.{descriptors_at};
+ghost use Rattle.kernel.specs.Kernel.{HasCurrent, current, current_descriptors, current_space};
 ghost use Rattle.kernel.specs.Sound.{file_named};
 ghost use Rattle.calls.specs.Transfers.{Begins, OnConsole, OnThePipe, Uses, IsFront, call_on, can_transfer, target_for};
 ghost use Rattle.calls.specs.Transfers.{target_named};
@@ -13,7 +13,6 @@ ghost use Rattle.files.specs.declared.file.End.TheVariants as End;
 ghost use Rattle.console.specs.Output.{AppendsBeginning};
 ghost use Rattle.files.specs.Meant.{end_of};
 ghost use Rattle.files.specs.Places.{has_end, opens_of};
-ghost use Rattle.spaces.specs.Spaces.{view_at};
 ghost use Rattle.unixmodel.specs.declared.call.Call.TheVariants as Call;
 ghost use Rattle.unixmodel.specs.Failures.{Rises};
 ghost use Rattle.unixmodel.specs.Files.{slot};
@@ -53,15 +52,11 @@ fn call_on(end: End) -> Call
     }
 }
 
-// What the open file that a descriptor of the process in a slot names is open on.
-fn open_target<D: BlockDev, T: Translate>(
-    kernel: &Kernel<D, T>,
-    at: usize,
-    descriptor: u32,
-) -> Option<Target>
-    ensures { result ≡ target_named kernel.now at descriptor }
+// What the open file that a descriptor of the running process names is open on.
+fn open_target<D: BlockDev, T: Translate>(kernel: &Kernel<D, T>, descriptor: u32) -> Option<Target>
+    ensures { result ≡ target_named kernel.now (current kernel.now) descriptor }
 {
-    let Some(id) = kernel.open_id(at, descriptor) else {
+    let Some(id) = kernel.open_id(descriptor) else {
         return None;
     };
     match kernel.file(usize::from(id)) {
@@ -96,14 +91,13 @@ fn target_for<D: BlockDev, T: Translate>(
 fn find_open_file<D: BlockDev, T: Translate>(
     kernel: &Kernel<D, T>,
     end: End,
-    at: usize,
     descriptor: u32,
 ) -> Option<(usize, Target)>
     ensures target { option_map (λ f. f.1) result
-        ≡ target_for end (file_named kernel.now.files (descriptors_at kernel.now at) descriptor) }
-    ensures number { IfSome result (λ f. slot (descriptors_at kernel.now at) descriptor ≡ Some f.0) }
+        ≡ target_for end (file_named kernel.now.files (current_descriptors kernel.now) descriptor) }
+    ensures number { IfSome result (λ f. slot (current_descriptors kernel.now) descriptor ≡ Some f.0) }
 {
-    let Some(id) = kernel.open_id(at, descriptor) else {
+    let Some(id) = kernel.open_id(descriptor) else {
         return None;
     };
     let id = usize::from(id);
@@ -118,16 +112,15 @@ fn find_open_file<D: BlockDev, T: Translate>(
 fn can_transfer<D: BlockDev, T: Translate>(
     kernel: &Kernel<D, T>,
     end: End,
-    at: usize,
     address: u64,
     count: u64,
 ) -> bool
-    requires { kernel.now.spaces.active ≡ Some at }
-    ensures { result ≡ can_transfer end (view_at kernel.now.spaces at).memory address count }
+    requires { HasCurrent kernel.now }
+    ensures { result ≡ can_transfer end (current_space kernel.now).memory address count }
 {
     match end {
-        End::Read => kernel.can_write(at, address, count),
-        End::Write => kernel.can_read(at, address, count),
+        End::Read => kernel.can_write(address, count),
+        End::Write => kernel.can_read(address, count),
     }
 }
 
@@ -135,15 +128,15 @@ fn can_transfer<D: BlockDev, T: Translate>(
 #[inline(always)]
 fn begin_transfer<D: BlockDev, T: Translate>(
     kernel: &Kernel<D, T>,
-    at: usize,
     end: End,
 ) -> Result<Transfer, Came>
-    requires { Runs kernel.now at }
-    ensures answered { IfErr result (λ came. Acts kernel.now kernel.now at (Some (call_on end)) came) }
-    ensures begins { IfOk result (Begins kernel.now at end) }
+    requires { Runs kernel.now }
+    ensures answered { IfErr result
+        (λ came. Acts kernel.now kernel.now (current kernel.now) (Some (call_on end)) came) }
+    ensures begins { IfOk result (Begins kernel.now (current kernel.now) end) }
 {
     let pending = pending(kernel, call_on(end));
-    let Some((id, target)) = find_open_file(kernel, end, at, low(pending.args[0])) else {
+    let Some((id, target)) = find_open_file(kernel, end, low(pending.args[0])) else {
         return Err(Came::Refuses);
     };
     let Some(count) = natural(pending.args[2]) else {
@@ -152,7 +145,7 @@ fn begin_transfer<D: BlockDev, T: Translate>(
     if count == 0 {
         return Err(Came::Answers(0));
     }
-    if !can_transfer(kernel, end, at, pending.args[1], u64::from(count)) {
+    if !can_transfer(kernel, end, pending.args[1], u64::from(count)) {
         return Err(Came::Refuses);
     }
     Ok(Transfer {
@@ -168,13 +161,12 @@ fn begin_transfer<D: BlockDev, T: Translate>(
 /// may be written for all of the count, which is tested first.
 pub(crate) fn read<D: BlockDev, T: Translate>(
     kernel: &mut Kernel<D, T>,
-    at: usize,
 ) -> Result<Came, DeviceFault>
-    requires { Runs kernel.old at }
-    ensures { ActsOnDisk kernel.old kernel.new at (Some Call.Read) result }
+    requires { Runs kernel.old }
+    ensures { ActsOnDisk kernel.old kernel.new (current kernel.old) (Some Call.Read) result }
 {
-    match begin_transfer(kernel, at, End::Read) {
-        Ok(transfer) => read_from(kernel, at, transfer),
+    match begin_transfer(kernel, End::Read) {
+        Ok(transfer) => read_from(kernel, transfer),
         Err(came) => Ok(came),
     }
 }
@@ -182,17 +174,16 @@ pub(crate) fn read<D: BlockDev, T: Translate>(
 /// The process goes on with its pending read, which is one of the console or of a pipe.
 pub(crate) fn read_on<D: BlockDev, T: Translate>(
     kernel: &mut Kernel<D, T>,
-    at: usize,
     pending: Pending,
 ) -> Came
-    requires runs { Runs kernel.old at }
-    requires can { CanWait kernel.old at pending }
+    requires runs { Runs kernel.old }
+    requires can { CanWait kernel.old (current kernel.old) pending }
     requires number { pending.number ≡ Call.Read }
-    ensures { GoesOn kernel.old kernel.new at pending result }
+    ensures { GoesOn kernel.old kernel.new (current kernel.old) pending result }
 {
-    match open_target(kernel, at, low(pending.args[0])).unwrap() {
-        Target::Console { .. } => read_console(kernel, at, pending),
-        Target::Pipe { pipe, .. } => read_pipe(kernel, at, pipe, pending),
+    match open_target(kernel, low(pending.args[0])).unwrap() {
+        Target::Console { .. } => read_console(kernel, pending),
+        Target::Pipe { pipe, .. } => read_pipe(kernel, pipe, pending),
         Target::File { .. } | Target::Device { .. } => unreachable!(),
     }
 }
@@ -200,16 +191,15 @@ pub(crate) fn read_on<D: BlockDev, T: Translate>(
 // A read goes on, of what is open there.
 fn read_from<D: BlockDev, T: Translate>(
     kernel: &mut Kernel<D, T>,
-    at: usize,
     transfer: Transfer,
 ) -> Result<Came, DeviceFault>
-    requires { Uses kernel.old at End.Read transfer }
-    ensures { GoesOnDisk kernel.old kernel.new at transfer.pending result }
+    requires { Uses kernel.old (current kernel.old) End.Read transfer }
+    ensures { GoesOnDisk kernel.old kernel.new (current kernel.old) transfer.pending result }
 {
     match transfer.target {
-        Target::File { number, offset } => read_file(kernel, at, number, offset, transfer),
-        Target::Console { .. } => Ok(read_console(kernel, at, transfer.pending)),
-        Target::Pipe { pipe, .. } => Ok(read_pipe(kernel, at, pipe, transfer.pending)),
+        Target::File { number, offset } => read_file(kernel, number, offset, transfer),
+        Target::Console { .. } => Ok(read_console(kernel, transfer.pending)),
+        Target::Pipe { pipe, .. } => Ok(read_pipe(kernel, pipe, transfer.pending)),
         Target::Device { .. } => unreachable!(),
     }
 }
@@ -217,19 +207,18 @@ fn read_from<D: BlockDev, T: Translate>(
 // From a file or a directory: the process takes what there is from the offset on, which then lies after it.
 fn read_file<D: BlockDev, T: Translate>(
     kernel: &mut Kernel<D, T>,
-    at: usize,
     number: u32,
     offset: u32,
     transfer: Transfer,
 ) -> Result<Came, DeviceFault>
-    requires uses { Uses kernel.old at End.Read transfer }
+    requires uses { Uses kernel.old (current kernel.old) End.Read transfer }
     requires on { transfer.target ≡ target.File number offset }
-    ensures { GoesOnDisk kernel.old kernel.new at transfer.pending result }
+    ensures { GoesOnDisk kernel.old kernel.new (current kernel.old) transfer.pending result }
 {
     let Transfer { id, pending, .. } = transfer;
     kernel.files_are_whole();
     let count = u64::from(low(pending.args[2]));
-    match kernel.read_node(at, number as usize, offset, pending.args[1], count) {
+    match kernel.read_node(number as usize, offset, pending.args[1], count) {
         Ok(read) => {
             kernel.set_offset(id, offset + low(read));
             kernel.is_sound();
@@ -241,20 +230,16 @@ fn read_file<D: BlockDev, T: Translate>(
 
 // From the console: the process takes what was typed, and waits on for the rest of a line.
 #[inline(always)]
-fn read_console<D: BlockDev, T: Translate>(
-    kernel: &mut Kernel<D, T>,
-    at: usize,
-    pending: Pending,
-) -> Came
-    requires { OnConsole kernel.old at End.Read pending }
-    ensures { GoesOn kernel.old kernel.new at pending result }
+fn read_console<D: BlockDev, T: Translate>(kernel: &mut Kernel<D, T>, pending: Pending) -> Came
+    requires { OnConsole kernel.old (current kernel.old) End.Read pending }
+    ensures { GoesOn kernel.old kernel.new (current kernel.old) pending result }
 {
-    kernel.pages_are_whole(at);
+    kernel.pages_are_whole();
     let left = u64::from(low(pending.args[2])) - pending.done;
     let mut buffer = [0; ROOM];
     let taken = kernel.take_line(left as usize, pending.done > 0, &mut buffer);
     let address = pending.args[1] + pending.done;
-    kernel.write(at, address, &buffer[..taken.count]);
+    kernel.write(address, &buffer[..taken.count]);
     kernel.is_sound();
     let done = pending.done + taken.count as u64;
     if taken.over {
@@ -268,16 +253,15 @@ fn read_console<D: BlockDev, T: Translate>(
 #[inline(always)]
 fn read_pipe<D: BlockDev, T: Translate>(
     kernel: &mut Kernel<D, T>,
-    at: usize,
     pipe: usize,
     pending: Pending,
 ) -> Came
-    requires { OnThePipe kernel.old at End.Read pipe pending }
-    ensures { GoesOn kernel.old kernel.new at pending result }
+    requires { OnThePipe kernel.old (current kernel.old) End.Read pipe pending }
+    ensures { GoesOn kernel.old kernel.new (current kernel.old) pending result }
 {
     if kernel.has_bytes(pipe) {
         let count = low(pending.args[2]) as usize;
-        let taken = kernel.read_pipe(at, pipe, pending.args[1], count);
+        let taken = kernel.read_pipe(pipe, pending.args[1], count);
         kernel.is_sound();
         return Came::Answers(taken as u64);
     }
@@ -291,21 +275,16 @@ fn read_pipe<D: BlockDev, T: Translate>(
 // ---- write
 
 // The next bytes to print: at most `most`, and at least one.
-fn piece<D: BlockDev, T: Translate>(
-    kernel: &Kernel<D, T>,
-    at: usize,
-    address: u64,
-    most: u64,
-) -> &[u8]
-    requires running { kernel.now.spaces.active ≡ Some at }
-    requires readable { 0 < length (reach Load (view_at kernel.now.spaces at).memory address) }
+fn piece<D: BlockDev, T: Translate>(kernel: &Kernel<D, T>, address: u64, most: u64) -> &[u8]
+    requires running { HasCurrent kernel.now }
+    requires readable { 0 < length (reach Load (current_space kernel.now).memory address) }
     requires most { 0 < most }
     ensures some { 0 < length result.now }
     ensures most { length result.now ≤ most }
-    ensures piece { IsFront result.now (piece_at Load (view_at kernel.now.spaces at).memory address) }
+    ensures piece { IsFront result.now (piece_at Load (current_space kernel.now).memory address) }
 {
-    kernel.pages_are_whole(at);
-    let piece = kernel.readable(at, address);
+    kernel.pages_are_whole();
+    let piece = kernel.readable(address);
     if piece.len() as u64 > most {
         &piece[..most as usize]
     } else {
@@ -316,24 +295,24 @@ fn piece<D: BlockDev, T: Translate>(
 // Prints `count` bytes of the running process, a page at a time.
 fn print<D: BlockDev, T: Translate, W: Out>(
     kernel: &Kernel<D, T>,
-    at: usize,
     address: u64,
     count: u64,
     out: &mut W,
 ) -> Result<(), OutFault>
-    requires running { kernel.now.spaces.active ≡ Some at }
-    requires readable { is_some (read_bytes (view_at kernel.now.spaces at).memory address count) ≡ true }
+    requires running { HasCurrent kernel.now }
+    requires readable { is_some (read_bytes (current_space kernel.now).memory address count) ≡ true }
     ensures ok { OnOk result
-        (Appends (W.contents out.old) (W.contents out.new) (bytes_given kernel.now.spaces at address count)) }
+        (Appends (W.contents out.old) (W.contents out.new)
+        (bytes_given kernel.now.spaces (current kernel.now) address count)) }
     ensures err { OnErr result (AppendsBeginning (W.contents out.old) (W.contents out.new)
-        (bytes_given kernel.now.spaces at address count)) }
+        (bytes_given kernel.now.spaces (current kernel.now) address count)) }
     ensures later { W.failures out.old ≤ W.failures out.new }
     ensures cause { OnErr result (Rises (W.failures out.old) (W.failures out.new)) }
 {
-    kernel.pages_are_whole(at);
+    kernel.pages_are_whole();
     let mut done = 0;
     while done < count {
-        let piece = piece(kernel, at, address + done, count - done);
+        let piece = piece(kernel, address + done, count - done);
         out.put(piece)?;
         done += piece.len() as u64;
     }
@@ -345,16 +324,15 @@ fn print<D: BlockDev, T: Translate, W: Out>(
 /// `Device`, `Console`: the device failed, the console did.
 pub(crate) fn write<D: BlockDev, T: Translate, W: Out>(
     kernel: &mut Kernel<D, T>,
-    at: usize,
     console: &mut W,
 ) -> Result<Came, Halt>
-    requires { Runs kernel.old at }
+    requires { Runs kernel.old }
     ensures tries { CallTries W.contents W.failures kernel.old kernel.new console.old console.new
-        at (Some Call.Write) result }
+        (Some Call.Write) result }
     ensures later { W.failures console.old ≤ W.failures console.new }
 {
-    match begin_transfer(kernel, at, End::Write) {
-        Ok(transfer) => write_to(kernel, at, transfer, console),
+    match begin_transfer(kernel, End::Write) {
+        Ok(transfer) => write_to(kernel, transfer, console),
         Err(came) => Ok(came),
     }
 }
@@ -362,26 +340,25 @@ pub(crate) fn write<D: BlockDev, T: Translate, W: Out>(
 // A write begins, to what is open there: to the console it prints all of its bytes.
 fn write_to<D: BlockDev, T: Translate, W: Out>(
     kernel: &mut Kernel<D, T>,
-    at: usize,
     transfer: Transfer,
     console: &mut W,
 ) -> Result<Came, Halt>
-    requires { Uses kernel.old at End.Write transfer }
+    requires { Uses kernel.old (current kernel.old) End.Write transfer }
     ensures tries { PendingTries W.contents W.failures kernel.old kernel.new console.old console.new
-        at transfer.pending result }
+        transfer.pending result }
     ensures later { W.failures console.old ≤ W.failures console.new }
 {
     let pending = transfer.pending;
     match transfer.target {
-        Target::File { number, offset } => Ok(write_file(kernel, at, number, offset, transfer)?),
+        Target::File { number, offset } => Ok(write_file(kernel, number, offset, transfer)?),
         Target::Console { .. } => {
             let count = u64::from(low(pending.args[2]));
-            match print(kernel, at, pending.args[1], count, console) {
+            match print(kernel, pending.args[1], count, console) {
                 Ok(()) => Ok(Came::Answers(count)),
                 Err(OutFault::Writer) => Err(Halt::Console),
             }
         }
-        Target::Pipe { pipe, .. } => Ok(write_pipe(kernel, at, pipe, pending)),
+        Target::Pipe { pipe, .. } => Ok(write_pipe(kernel, pipe, pending)),
         Target::Device { .. } => unreachable!(),
     }
 }
@@ -397,18 +374,17 @@ fn write_answer(wrote: u64, count: u64) -> u64
 // -1 where some are left.
 fn write_file<D: BlockDev, T: Translate>(
     kernel: &mut Kernel<D, T>,
-    at: usize,
     number: u32,
     offset: u32,
     transfer: Transfer,
 ) -> Result<Came, DeviceFault>
-    requires uses { Uses kernel.old at End.Write transfer }
+    requires uses { Uses kernel.old (current kernel.old) End.Write transfer }
     requires on { transfer.target ≡ target.File number offset }
-    ensures { GoesOnDisk kernel.old kernel.new at transfer.pending result }
+    ensures { GoesOnDisk kernel.old kernel.new (current kernel.old) transfer.pending result }
 {
     let Transfer { id, pending, .. } = transfer;
     let count = u64::from(low(pending.args[2]));
-    match kernel.write_node(at, number as usize, offset, pending.args[1], count) {
+    match kernel.write_node(number as usize, offset, pending.args[1], count) {
         Ok(Some(wrote)) => {
             kernel.set_offset(id, offset + low(wrote));
             kernel.is_sound();
@@ -422,16 +398,15 @@ fn write_file<D: BlockDev, T: Translate>(
 /// The process goes on with its pending write, which is one to a pipe.
 pub(crate) fn write_on<D: BlockDev, T: Translate>(
     kernel: &mut Kernel<D, T>,
-    at: usize,
     pending: Pending,
 ) -> Came
-    requires runs { Runs kernel.old at }
-    requires can { CanWait kernel.old at pending }
+    requires runs { Runs kernel.old }
+    requires can { CanWait kernel.old (current kernel.old) pending }
     requires number { pending.number ≡ Call.Write }
-    ensures { GoesOn kernel.old kernel.new at pending result }
+    ensures { GoesOn kernel.old kernel.new (current kernel.old) pending result }
 {
-    match open_target(kernel, at, low(pending.args[0])).unwrap() {
-        Target::Pipe { pipe, .. } => write_pipe(kernel, at, pipe, pending),
+    match open_target(kernel, low(pending.args[0])).unwrap() {
+        Target::Pipe { pipe, .. } => write_pipe(kernel, pipe, pending),
         Target::File { .. } | Target::Console { .. } | Target::Device { .. } => unreachable!(),
     }
 }
@@ -441,20 +416,19 @@ pub(crate) fn write_on<D: BlockDev, T: Translate>(
 #[inline(always)]
 fn write_pipe<D: BlockDev, T: Translate>(
     kernel: &mut Kernel<D, T>,
-    at: usize,
     pipe: usize,
     pending: Pending,
 ) -> Came
-    requires { OnThePipe kernel.old at End.Write pipe pending }
-    ensures { GoesOn kernel.old kernel.new at pending result }
+    requires { OnThePipe kernel.old (current kernel.old) End.Write pipe pending }
+    ensures { GoesOn kernel.old kernel.new (current kernel.old) pending result }
 {
     if !has_end(kernel, pipe, End::Read) {
         return Came::Answers(REFUSED);
     }
-    kernel.pages_are_whole(at);
+    kernel.pages_are_whole();
     let left = u64::from(low(pending.args[2])) - pending.done;
     let address = pending.args[1] + pending.done;
-    let sent = kernel.write_pipe(at, pipe, address, left as usize);
+    let sent = kernel.write_pipe(pipe, address, left as usize);
     kernel.is_sound();
     let done = pending.done + sent as u64;
     if done == u64::from(low(pending.args[2])) {

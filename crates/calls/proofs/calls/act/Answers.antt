@@ -1,4 +1,4 @@
-use Rattle.calls.proofs.Common.{[], ActsOnDisk, Appends-nil, arith, err_from_is_err_and, None, refl, Some}
+use Rattle.calls.proofs.Common.{[], ActsOnDisk, Appends-nil, arith, current, err_from_is_err_and, None, refl, Some}
 use Rattle.calls.proofs.Acts.{unbuilt}
 use Rattle.calls.proofs.calls.act.Given as given
 use Rattle.calls.proofs.calls.act.Goals.{After-branch-came, in-Chdir, in-Close, in-Dup, in-Exec, in-Exit, in-Fork}
@@ -8,7 +8,8 @@ use Rattle.calls.proofs.calls.act.Goals as goal
 
 -- each call but write says what it did
 acts : (g : given.Over) (c : After-branch-came g)
-    → ActsOnDisk c.args.kernel.now c.match-call-2.kernel c.args.at (Some c.in-Some.call) c.match-call-2.came
+    → ActsOnDisk c.args.kernel.now c.match-call-2.kernel (current c.args.kernel.now) (Some c.in-Some.call)
+    c.match-call-2.came
 acts g c = elim c.match-call-2.branch [
   | in-Fork w ↦ rw (w.kernel-is, w.came-is, w.in-Fork.is) w.fork.ensures
   | in-Exit w ↦ rw (w.kernel-is, w.came-is, w.in-Exit.is) w.exit.ensures

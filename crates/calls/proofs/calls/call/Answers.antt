@@ -1,6 +1,13 @@
-use Rattle.calls.proofs.Common.{err_from_is_err_and, Rises, rules}
+use Rattle.calls.proofs.Common.{current-is, err_from_is_err_and, has-current, Rises, rules, runs-now}
 use Rattle.calls.proofs.Acts.{fails-of, makes-of, numbers}
 use Rattle.calls.proofs.calls.call.Goals as goal
+
+pub act-requires : goal.act-requires
+act-requires g c = runs-now c.begin.ensures.runs
+
+pub settle-requires : goal.settle-requires
+settle-requires g c = let comes = c.in_ok-came.ensures.tries.1 in
+    record { running = has-current comes.active; up = comes.served.up; can = rw (current-is comes.active) comes.can }
 
 pub returns-in_err-came : goal.returns-in_err-came
 returns-in_err-came g c =
@@ -14,5 +21,6 @@ returns-in_err-came g c =
 
 pub returns-clause-gives : goal.returns-clause-gives
 returns-clause-gives g c =
+    let tries = rw (current-is c.begin.ensures.runs.active) at c.in_ok-came.ensures.tries in
     makes-of c.begin.ensures (numbers c.args.kernel.now c.argument.ensures c.low.ensures c.call_of-call.ensures)
-    c.act.new.kernel _ _ c.in_ok-came.ensures.tries.1 c.in_ok-came.ensures.tries.2 _ c.in_ok-settle.ensures.gives
+    c.act.new.kernel _ _ tries.1 tries.2 _ (rw (current-is tries.1.active) at c.in_ok-settle.ensures.gives)

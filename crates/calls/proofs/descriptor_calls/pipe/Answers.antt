@@ -1,4 +1,4 @@
-use Rattle.calls.proofs.Common.{ap, arith, count_by, descriptors_in, here-of, is_none, sym, ◌∙◌}
+use Rattle.calls.proofs.Common.{ap, arith, count_by, current-is, descriptors_in, here-of, is_none, sym, ◌∙◌}
 use Rattle.std.specs.Option.{option_copied}
 use Rattle.calls.proofs.Pipes.{lacks-descriptors, lacks-frames, lacks-places, lacks-room, pipe-can, pipe-opens}
 use Rattle.calls.proofs.Pipes.{pipe-unwritable}
@@ -15,7 +15,7 @@ returns-then-free_count-lt2 g c =
     let can = rw c.argument-address.ensures at c.if-not-can_write.ensures in
     elim c.then-free_count-lt2.branch [
       | then-free_count-lt2-via-then-free_count-lt2 w ↦ lacks-descriptors (here-of c.requires) can
-          (sym c.process.ensures ∙ ap option_copied c.in-Some.is) (omega arith)
+          (rw c.current.ensures at (sym c.process.ensures ∙ ap option_copied c.in-Some.is)) (omega arith)
       | then-free_count-lt2-via-else-free_count-lt2+then-free_places-lt2 w ↦ lacks-places (here-of c.requires) can
           (omega arith)
     ]
@@ -27,7 +27,8 @@ returns-in_default-free_pipe g c =
 
 pub open_pipe-requires-clause-may : goal.open_pipe-requires-clause-may
 open_pipe-requires-clause-may g c =
-    let two = ap (λ o. count_by is_none (descriptors_in o)) (sym c.process.ensures ∙ ap option_copied c.in-Some.is) in
+    let there = rw c.current.ensures at (sym c.process.ensures ∙ ap option_copied c.in-Some.is) in
+    let two = ap (λ o. count_by is_none (descriptors_in o)) there in
     (record {
       running = c.requires.active;
       descriptors = omega (arith, two);
@@ -45,9 +46,11 @@ pub write-requires : goal.write-requires
 write-requires g c =
     let can = pipe-can (here-of c.requires) (rw c.argument-address.ensures at c.if-not-can_write.ensures)
     c.in-Some-open_pipe.ensures.pipes in
-    rw (c.argument-address.ensures, c.ints.ensures) (record { running = can.0; can = can.1 })
+    rw (c.argument-address.ensures, c.ints.ensures, current-is can.0) (record { running = can.0; can = can.1 })
 
 pub returns : goal.returns
-returns g c = pipe-opens (here-of c.requires) (rw c.argument-address.ensures at c.if-not-can_write.ensures)
-    c.in-Some-open_pipe.ensures.pipes c.is_sound.ensures.sound
-    (rw (c.argument-address.ensures, c.ints.ensures) at c.write.ensures)
+returns g c =
+    let can = rw c.argument-address.ensures at c.if-not-can_write.ensures in
+    let active = (pipe-can (here-of c.requires) can c.in-Some-open_pipe.ensures.pipes).0 in
+    pipe-opens (here-of c.requires) can c.in-Some-open_pipe.ensures.pipes c.is_sound.ensures.sound
+    (rw (c.argument-address.ensures, c.ints.ensures, current-is active) at c.write.ensures)

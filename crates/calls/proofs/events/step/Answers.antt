@@ -1,4 +1,4 @@
-use Rattle.calls.proofs.Common.{err_from_is_err_and, refl, rules, sym, ◌∙◌}
+use Rattle.calls.proofs.Common.{err_from_is_err_and, has-current, refl, rules, runs-now, sym, ◌∙◌}
 use Rattle.calls.proofs.Acts.{runs-of}
 use Rattle.calls.proofs.Takes.{does-err, does-made, made-quiet, next-executes, next-turns}
 use Rattle.calls.proofs.events.step.Goals.{in-None+in_ok-take_turn-in-None, in-Some+in_ok-instruct-in-Some}
@@ -6,13 +6,14 @@ use Rattle.calls.proofs.events.step.Goals as goal
 
 pub instruct-requires : goal.instruct-requires
 instruct-requires g c =
-    let s = c.is_sound.ensures in runs-of (sym c.in-Some.ensures) c.requires.up s.sound s.zero s.aligned
+    let s = c.is_sound.ensures in
+    runs-now (runs-of (sym c.in-Some.ensures) c.requires.up s.sound s.zero s.aligned)
 
 pub returns-in_err-instruct-in-Some : goal.returns-in_err-instruct-in-Some
 returns-in_err-instruct-in-Some g c =
     let e = err_from_is_err_and c.from_residual.result c.from_residual.ensures.1 in
-    let active = sym c.in-Some.ensures in
-    let same = next-executes c.args.kernel.now c.in-Some.at c.is_sound.ensures.sound active in
+    let active = has-current (sym c.in-Some.ensures) in
+    let same = next-executes c.args.kernel.now _ c.is_sound.ensures.sound active in
     record {
       does = rw (e.1, e.2) (does-err _ _ _ _ _ _ _ same c.in_err-instruct-in-Some.ensures.gives);
       tree = rw (e.1, e.2) c.in_err-instruct-in-Some.ensures.tree;
@@ -27,7 +28,7 @@ returns-clause-does g c =
           rw (
             w.kernel-is,
             w.console-is,
-            next-executes c.args.kernel.now w.in-Some.at s.sound (sym c.active.ensures ∙ w.in-Some.is),
+            next-executes c.args.kernel.now _ s.sound (has-current (sym c.active.ensures ∙ w.in-Some.is)),
           )
           w.in_ok-instruct-in-Some.ensures.gives
       | in-None+in_ok-take_turn-in-None w ↦

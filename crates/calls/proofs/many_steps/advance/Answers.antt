@@ -1,6 +1,9 @@
-use Rattle.calls.proofs.Common.{Rises}
+use Rattle.calls.proofs.Common.{has-current, Rises, sym}
 use Rattle.calls.proofs.Pieces.{silent}
 use Rattle.calls.proofs.many_steps.advance.Goals as goal
+
+pub instruct_many-requires-clause-running : goal.instruct_many-requires-clause-running
+instruct_many-requires-clause-running g c = has-current (sym c.in-Some.ensures)
 
 pub returns-in-None-clause-does : goal.returns-in-None-clause-does
 returns-in-None-clause-does g c =

@@ -1,5 +1,5 @@
 use Rattle.calls.proofs.Common.{Chdir, chdir_row, here-of, refl, sym, ◌∙◌}
-use Rattle.calls.proofs.Names.{after-look, lost-path, pathless, reaches, read-runs}
+use Rattle.calls.proofs.Names.{after-look, looked, lost-path, pathless, reaches, read-runs}
 use Rattle.calls.proofs.open_calls.chdir.Goals as goal
 
 pub returns-in_default : goal.returns-in_default
@@ -15,7 +15,8 @@ returns-in_default-2 g c =
 pub chdir_found-requires : goal.chdir_found-requires
 chdir_found-requires g c =
     let reads = c.in_ok-number.ensures in
-    record { runs = read-runs reads.0 c.requires; reaches = reaches c.in-Some.ensures.path reads c.in-Some-2.is }
+    rw (looked reads.0) (record
+    { runs = read-runs reads.0 c.requires; reaches = reaches c.in-Some.ensures.path reads c.in-Some-2.is })
 
 pub returns : goal.returns
-returns g c = after-look c.in_ok-number.ensures.0 _ c.args.at c.requires.up Chdir _ c.chdir_found.ensures
+returns g c = after-look c.in_ok-number.ensures.0 _ c.requires.up Chdir _ c.chdir_found.ensures

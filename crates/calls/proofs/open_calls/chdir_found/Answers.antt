@@ -1,6 +1,6 @@
 use Rattle.calls.proofs.Common.{Chdir, here-of}
 use Rattle.calls.proofs.Opens.{chdir-goes, chdir-other, chdir-there}
-use Rattle.calls.proofs.Names.{after-look, read-runs}
+use Rattle.calls.proofs.Names.{after-look, looked, read-runs}
 use Rattle.calls.proofs.open_calls.chdir_found.Goals as goal
 
 pub stat-requires : goal.stat-requires
@@ -14,7 +14,8 @@ pub work_in-requires : goal.work_in-requires
 work_in-requires g c =
     let reads = c.in_ok-stat.ensures in
     let goes = chdir-goes (here-of c.requires.runs) c.requires.reaches _ reads c.if-branch-ne-DIRECTORY.false in
-    record { runs = read-runs reads.0 c.requires.runs; reaches = goes.0; directory = goes.1 }
+    rw (looked reads.0) (record
+    { runs = read-runs reads.0 c.requires.runs; reaches = goes.0; directory = goes.1 })
 
 pub returns : goal.returns
-returns g c = after-look c.in_ok-stat.ensures.0 _ c.args.at c.requires.runs.up Chdir _ c.work_in.ensures
+returns g c = after-look c.in_ok-stat.ensures.0 _ c.requires.runs.up Chdir _ c.work_in.ensures

@@ -1,4 +1,4 @@
-use Rattle.calls.proofs.Common.{ap, has_seat, here-of, Kernel, refl, sym, ◌∙◌}
+use Rattle.calls.proofs.Common.{ap, current, has_seat, here-of, Kernel, refl, sym, ◌∙◌}
 use Rattle.calls.proofs.Opens.{create-fails, created-openable, created-runs, open-absent, open-created, open-new-full}
 use Rattle.calls.proofs.open_calls.open_new.Goals as goal
 
@@ -11,18 +11,19 @@ returns-then-not-has_seat g c =
     (sym c.if-not-has_seat.ensures)
 
 pub open_on-descriptor-requires : goal.open_on-descriptor-requires
-open_on-descriptor-requires g c = record {
+open_on-descriptor-requires g c = rw (ap current c.create-made.ensures.rest) (record {
   runs = created-runs (here-of c.requires.runs) c.requires.asks (sym c.if-not-creates.ensures)
       c.create-made.ensures.rest c.is_sound.ensures.sound c.create-made.ensures.made c.in-Ok.is c.requires.runs;
-  seat = ap (λ (y : Kernel). has_seat y c.args.at) c.create-made.ensures.rest ∙ sym c.if-not-has_seat.ensures;
+  seat = ap (λ (y : Kernel). has_seat y (current c.args.kernel.now)) c.create-made.ensures.rest
+      ∙ sym c.if-not-has_seat.ensures;
   may = created-openable (here-of c.requires.runs) c.requires.asks (sym c.if-not-creates.ensures)
       c.create-made.ensures.rest c.is_sound.ensures.sound c.create-made.ensures.made c.in-Ok.is _ refl;
-}
+})
 
 pub returns-in-Ok : goal.returns-in-Ok
 returns-in-Ok g c = open-created (here-of c.requires.runs) c.requires.asks (sym c.if-not-creates.ensures)
     c.create-made.ensures.rest c.is_sound.ensures.sound c.create-made.ensures.made c.in-Ok.is
-    c.open_on-descriptor.ensures
+    (rw (ap current c.create-made.ensures.rest) at c.open_on-descriptor.ensures)
 
 pub returns-in-Err : goal.returns-in-Err
 returns-in-Err g c = create-fails (here-of c.requires.runs) c.requires.asks (sym c.if-not-creates.ensures)
