@@ -272,13 +272,13 @@ impl Commit {
         }
     }
 
-    // Puts its line into an empty one, where the core's number has one digit: so the compiler knows where parts begin.
+    // Makes a line this instruction's, where the core's number has one digit: so the compiler knows where parts begin.
     #[inline(always)]
     fn put_by_digit(&self, line: &mut CommitLine)
-        requires empty { line.old.items ≡ [] }
-        requires digit { self.now.core < 10 }
+        requires { self.now.core < 10 }
         ensures { line.new.items ≡ commit_line self.now.core self.now.pc self.now.word self.now.act self.now.value }
     {
+        line.clear();
         put(line, b"core");
         put(line, &one_at_right(self.core));
         self.put_instruction(line);
@@ -289,9 +289,9 @@ impl Commit {
     // The same for any core.
     #[inline(never)]
     fn put_by_number(&self, line: &mut CommitLine)
-        requires { line.old.items ≡ [] }
         ensures { line.new.items ≡ commit_line self.now.core self.now.pc self.now.word self.now.act self.now.value }
     {
+        line.clear();
         put(line, b"core");
         put_core(line, self.core);
         self.put_instruction(line);
@@ -299,10 +299,9 @@ impl Commit {
         put(line, b"\n");
     }
 
-    /// Puts its line into an empty one.
+    /// Makes a line this instruction's.
     #[inline(always)]
     pub fn put(&self, line: &mut CommitLine)
-        requires { line.old.items ≡ [] }
         ensures { line.new.items ≡ commit_line self.now.core self.now.pc self.now.word self.now.act self.now.value }
     {
         if self.core < 10 {
