@@ -1,5 +1,5 @@
 //! The loop that gives a machine its events.
-ghost use Rattle.std.specs.Prelude.{◌<◌, ◌≡◌, ◌≢◌, ◌≤◌, MatchBool, [], Some, None, option_map, true, ◌&&◌};
+ghost use Rattle.std.specs.Prelude.{◌+◌, ◌<◌, ◌≡◌, ◌≢◌, ◌≤◌, MatchBool, [], Some, None, option_map, true, ◌&&◌};
 ghost use Rattle.std.specs.Io.KnownBytes.{Keeps};
 ghost use Rattle.driver.specs.Driven.{Goes, IsDriven, Serves, no_steps, shown_by, spot_at};
 ghost use Rattle.driver.specs.Goals.{GoesOn, IsFound, IsOver, IsReached, IsUnreached};
@@ -132,30 +132,33 @@ impl<D: BlockDev, T: Translate, R: Record, V: Watch, W: Write> Driver<D, T, R, V
     }
 
     // Writes out the console's bytes where a batch begins of an event that comes `times` times, and came `made` times
-    // up to now, if more than a batch would have come since that was last done. Returns how many may come before the
-    // next.
+    // up to now, if more than a batch would have come since that was last done. Returns how many come before the next.
     fn write_out(&mut self, event: Event, made: u32, times: u32) -> u32
+        requires { made < times }
         ensures machine { self.new.machine ≡ self.old.machine }
         ensures keeper { self.new.keeper ≡ self.old.keeper }
         ensures clock { self.new.clock ≡ self.old.clock }
         ensures kept { Keeps self.old.out.contents self.new.out.contents }
         ensures later { self.old.out.failed ≤ self.new.out.failed }
-        ensures room { (0 < result) × (result ≤ 65536) }
+        ensures some { 0 < result }
+        ensures few { result ≤ 65536 }
+        ensures within { made + result ≤ times }
     {
+        let rest = times - made;
         let part = made % BATCH;
         if part > 0 {
-            return BATCH - part;
+            return rest.min(BATCH - part);
         }
-        let more = times.saturating_sub(made).min(BATCH);
+        let more = rest.min(BATCH);
         self.since = self.since.saturating_add(more);
         let is_early = self.since <= BATCH;
         if is_early {
-            return BATCH;
+            return more;
         }
         self.since = more;
         let _ = self.out.flush();
         self.watch.written_out(event, made);
-        BATCH
+        more
     }
 
     // Gives ticks.
@@ -167,7 +170,7 @@ impl<D: BlockDev, T: Translate, R: Record, V: Watch, W: Write> Driver<D, T, R, V
     {
         let mut made = 0;
         while made < times {
-            let count = self.write_out(Event::Tick, made, times).min(times - made);
+            let count = self.write_out(Event::Tick, made, times);
             self.keeper.ticks(count);
             each(
                 &mut self.machine,
@@ -303,7 +306,7 @@ impl<D: BlockDev, T: Translate, R: Record, V: Watch, W: Write> Driver<D, T, R, V
                 self.watch.repeated(Event::Step, made);
                 return Ok(self.ended(made, aim));
             }
-            let room = self.write_out(Event::Step, made, most).min(most - made);
+            let room = self.write_out(Event::Step, made, most);
             let (more, ended) = self.go_on(room, aim.is_some());
             ended?;
             made += more;

@@ -17,7 +17,7 @@ pub ended-requires-2 : goal.ended-requires-2
 ended-requires-2 g c = far-up c.loop-made.invariant.walking.far
 
 pub go_on-more-requires-clause-up : goal.go_on-more-requires-clause-up
-go_on-more-requires-clause-up g c = rw c.write_out.ensures.machine (far-up c.loop-made.invariant.walking.far)
+go_on-more-requires-clause-up g c = rw c.write_out-room.ensures.machine (far-up c.loop-made.invariant.walking.far)
 
 pub returns-then-is_over-clause-given : goal.returns-then-is_over-clause-given
 returns-then-is_over-clause-given g c =
@@ -26,7 +26,7 @@ returns-then-is_over-clause-given g c =
 
 pub returns-in_err-ended-clause-given : goal.returns-in_err-ended-clause-given
 returns-in_err-ended-clause-given g c =
-    let w = c.write_out.ensures in
+    let w = c.write_out-room.ensures in
     rw (lost _ c.from_residual.ensures.1)
     (walking-halts c.loop-made.invariant.walking w.kept w.later (match-no _ _ _ c.is_over.ensures c.if-is_over.false)
     (some-same (λ g. g.now) c.args.aim _ c.is_some.ensures) (omega arith) _
@@ -35,7 +35,7 @@ returns-in_err-ended-clause-given g c =
 
 pub loop-made-preserved : goal.loop-made-preserved
 loop-made-preserved g c =
-    let w = c.write_out.ensures in
+    let w = c.write_out-room.ensures in
     record {
       walking = walking-more c.loop-made.invariant.walking w.kept w.later
           (match-no _ _ _ c.is_over.ensures c.if-is_over.false)
@@ -55,7 +55,7 @@ returns-then-is_over-clause-rest g c = c.loop-made.invariant.rest
 
 pub returns-in_err-ended-clause-rest : goal.returns-in_err-ended-clause-rest
 returns-in_err-ended-clause-rest g c =
-    c.go_on-more.ensures.rest ∙ ap g.R.Record.rest c.write_out.ensures.keeper ∙ c.loop-made.invariant.rest
+    c.go_on-more.ensures.rest ∙ ap g.R.Record.rest c.write_out-room.ensures.keeper ∙ c.loop-made.invariant.rest
 
 pub returns-clause-rest : goal.returns-clause-rest
 returns-clause-rest g c = c.loop-made.invariant.rest
